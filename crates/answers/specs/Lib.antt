@@ -1,0 +1,4 @@
+pub mod Table
+pub mod Listed
+pub mod Lent
+pub mod OneAnswer

@@ -1,0 +1,31 @@
+-- This paper's number and values for each case of each enum: what the promises speak of.
+use Prim.Native.Nat.{ℕ}
+use mathlib.Core.List.{List, [], _∷_}
+use Rattle.answers.specs.declared.Refusal.{Refusal}
+use Rattle.answers.specs.declared.Refusal.the-variants.{
+  TruncatedField,
+  InvalidLength,
+  OutOfRange,
+  CorrelationOutOfRange,
+  UnsupportedImapbLength,
+  BufferTooSmall,
+  TooManyRows,
+  NoSuchCell,
+}
+use Rattle.answers.specs.declared.Written.{Written}
+use Rattle.answers.specs.declared.Written.the-variants.{Done, Refused}
+use Rattle.answers.specs.Table.{Answer, answer, whole, bits64, wholes}
+
+abbrev pub listed : Refusal → Answer
+listed TruncatedField = answer 1 []
+listed (InvalidLength expected got) = answer 2 (wholes (expected ∷ got ∷ []))
+listed (OutOfRange value least most) = answer 3 (wholes (value ∷ least ∷ most ∷ []))
+listed (CorrelationOutOfRange value least most) = answer 3 (bits64 value ∷ bits64 least ∷ bits64 most ∷ [])
+listed (UnsupportedImapbLength length) = answer 4 (wholes (length ∷ []))
+listed (BufferTooSmall needed got) = answer 5 (wholes (needed ∷ got ∷ []))
+listed (TooManyRows n) = answer 6 (wholes (n ∷ []))
+listed (NoSuchCell i j) = answer 7 (wholes (i ∷ j ∷ []))
+
+abbrev pub written : Written → Answer
+written (Done n) = answer 0 (wholes (n ∷ []))
+written (Refused r) = listed r

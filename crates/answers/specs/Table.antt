@@ -1,0 +1,25 @@
+-- Document 01's answers, independent of the code's enums: a number, and the entries that it carries.
+use Prim.Native.Nat.{ℕ}
+use mathlib.Core.Bool.{Bool, true, false}
+use mathlib.Core.List.{List, [], _∷_}
+
+-- an entry keeps its kind: a whole number (N, a count, a row, a length, a payload), or the bits of a binary64
+pub data Entry : Type 0 where
+  whole : ℕ → Entry
+  bits64 : ℕ → Entry
+
+pub record Answer : Type 0 where
+  pub number : ℕ
+  pub carries : List Entry
+
+abbrev pub answer : ℕ → List Entry → Answer
+answer n es = record { number = n; carries = es }
+
+abbrev pub wholes : List ℕ → List Entry
+wholes [] = []
+wholes (n ∷ ns) = whole n ∷ wholes ns
+
+-- a rule of an order: where the test holds this answer, otherwise the next rule
+abbrev pub pick : {A : Type 0} → Bool → A → A → A
+pick true a b = a
+pick false a b = b
