@@ -1,3 +1,4 @@
 pub mod Cases
 pub mod OneToOne
 pub mod Lent
+pub mod Rules

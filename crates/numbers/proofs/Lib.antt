@@ -1,0 +1,12 @@
+pub mod Digits
+pub mod Bytes
+pub mod BerOid
+pub mod Closest
+pub mod Rounding
+pub mod Patterns
+pub mod Nearest
+pub mod Narrow
+pub mod Widen
+pub mod Exact
+pub mod WholePart
+pub mod OneAnswer

@@ -1,0 +1,57 @@
+-- No second answer meets a contract: two that do are the same, with what they leave in lent memory.
+-- Assumes nothing.
+use mathlib.Core.Path.{_≡_, refl, sym, ap, _∙_}
+use native.Mathlib.Omega.{arith}
+use denote.Ref.{now}
+use Rattle.answers.specs.OneAnswer.{OneResult, OneAnswer}
+use Rattle.answers.specs.Lent.{leaves}
+use Rattle.answers.specs.Table.{Answer}
+use Rattle.answers.proofs.OneToOne.{written-one}
+use Rattle.numbers.specs.declared.ber_oid.BerOid.{BerOid}
+use Rattle.numbers.specs.declared.ber_oid.BerOid.the-variants.{Read, Unreadable}
+use Rattle.numbers.specs.BerOid.{oidListed, oidBytes}
+use Rattle.numbers.proofs.words.read_be.Reads as read-be
+use Rattle.numbers.proofs.words.write_be.Reads as write-be
+use Rattle.numbers.proofs.ber_oid.read_ber_oid.Reads as read-ber-oid
+use Rattle.numbers.proofs.ber_oid.ber_oid_len.Reads as ber-oid-len
+use Rattle.numbers.proofs.ber_oid.write_ber_oid.Reads as write-ber-oid
+use Rattle.numbers.proofs.conversions.nearest_binary64.Reads as nearest-binary64
+use Rattle.numbers.proofs.conversions.binary64_to_binary32.Reads as binary64-to-binary32
+use Rattle.numbers.proofs.conversions.binary32_to_binary64.Reads as binary32-to-binary64
+use Rattle.numbers.proofs.conversions.whole_part.Reads as whole-part
+
+pub read-be-one : OneResult read-be.Learnt
+read-be-one κs a r r′ s s′ p q = p ∙ sym q
+
+pub ber-oid-len-one : OneResult ber-oid-len.Learnt
+ber-oid-len-one κs a r r′ s s′ p q = p ∙ sym q
+
+-- what determines the listed answer determines the enum
+oid-one : (r r′ : BerOid) → oidListed r ≡ oidListed r′ → r ≡ r′
+oid-one (Read v n) (Read w m) e = let c = ap (λ (a : Answer). a .carries) e in cc
+oid-one (Read v n) Unreadable e = let c = ap (λ (a : Answer). a .number) e in absurd (omega arith)
+oid-one Unreadable (Read w m) e = let c = ap (λ (a : Answer). a .number) e in absurd (omega arith)
+oid-one Unreadable Unreadable e = refl
+
+pub read-ber-oid-one : OneResult read-ber-oid.Learnt
+read-ber-oid-one κs a r r′ s s′ p q = oid-one r r′ (p ∙ sym q)
+
+pub write-be-one : OneAnswer write-be.Learnt (λ κs s. now (s .1 .0))
+write-be-one κs a r r′ s s′ p q = (refl, p ∙ sym q)
+
+pub write-ber-oid-one : OneAnswer write-ber-oid.Learnt (λ κs s. now (s .1 .0))
+write-ber-oid-one κs a r r′ s s′ p q =
+    let e = p .0 ∙ sym (q .0) in
+    (written-one r r′ e, p .1 ∙ ap (λ (x : Answer). leaves x (oidBytes (a .0)) (now (a .1 .0))) e ∙ sym (q .1))
+
+pub nearest-binary64-one : OneResult nearest-binary64.Learnt
+nearest-binary64-one κs a r r′ s s′ p q = p ∙ sym q
+
+pub binary64-to-binary32-one : OneResult binary64-to-binary32.Learnt
+binary64-to-binary32-one κs a r r′ s s′ p q = p ∙ sym q
+
+pub binary32-to-binary64-one : OneResult binary32-to-binary64.Learnt
+binary32-to-binary64-one κs a r r′ s s′ p q = p ∙ sym q
+
+pub whole-part-one : OneResult whole-part.Learnt
+whole-part-one κs a r r′ s s′ p q = p ∙ sym q

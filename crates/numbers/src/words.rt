@@ -1,0 +1,30 @@
+//! Whole numbers as bytes, high byte first.
+ghost use mathlib.Core.Path.{_≡_};
+ghost use lib.ListN.{length};
+ghost use Rattle.numbers.specs.Words.{wordOf, bytesOf};
+
+// The number that the bytes spell. Of more than eight bytes the last eight count.
+pub fn read_be(bytes: &[u8]) -> u64
+    ensures { λ r. ⌜ r ≡ wordOf (now (bytes .entry)) ⌝ }
+{
+    let mut value: u64 = 0;
+    let mut i: usize = 0;
+    while i < bytes.len() {
+        value = value % 0x100_0000_0000_0000 * 256 + crate::wide(bytes[i]);
+        i += 1;
+    }
+    value
+}
+
+// The value's low bytes, as many as the part has.
+pub fn write_be(value: u64, part: &mut [u8])
+    ensures { λ _. ⌜ now (part .exit) ≡ bytesOf (length (now (part .entry))) value ⌝ }
+{
+    let mut left = value;
+    let mut i = part.len();
+    while 0 < i {
+        i -= 1;
+        part[i] = (left % 256) as u8;
+        left = left / 256;
+    }
+}
