@@ -1,0 +1,92 @@
+//! `oid HEX`: BER-OID numbers, by the Rust's `read_ber_oid`.
+use super::{hex, Case, Kind};
+use crate::klv::length::read_ber_oid;
+use crate::random::Random;
+
+pub const KIND: Kind = Kind {
+    name: "oid",
+    limits,
+    random,
+};
+
+// Bytes at both ends of what a byte can mean: more follows or not, no digits or all, the top digits of 2^32 and below it.
+const EDGES: [u8; 12] = [
+    0x00, 0x01, 0x0F, 0x10, 0x7F, 0x80, 0x81, 0x8F, 0x90, 0xC0, 0xFE, 0xFF,
+];
+
+fn case(bytes: &[u8]) -> Case {
+    let answer = match read_ber_oid(bytes) {
+        Ok((value, left)) => format!("oid {value} {}", left.len()),
+        Err(_) => "refused 1".to_string(),
+    };
+    Case {
+        request: format!("oid {}", hex(bytes)),
+        answer,
+    }
+}
+
+// The value in the fewest bytes, after some 80s.
+fn spelled(value: u64, padding: u64) -> Vec<u8> {
+    let mut bytes = vec![(value % 128) as u8];
+    let mut left = value / 128;
+    while left > 0 {
+        bytes.insert(0, 128 + (left % 128) as u8);
+        left /= 128;
+    }
+    for _ in 0..padding {
+        bytes.insert(0, 0x80);
+    }
+    bytes
+}
+
+fn limits() -> Vec<Case> {
+    // none, and as many as a request has to be taken with
+    let mut cases = vec![case(&[]), case(&[0x7F; 300_000])];
+    for digits in [7, 14, 21, 28, 32, 35] {
+        for value in [
+            (1 << digits) - 2,
+            (1 << digits) - 1,
+            1 << digits,
+            (1 << digits) + 1,
+        ] {
+            for padding in 0..8 {
+                let mut bytes = spelled(value, padding);
+                cases.push(case(&bytes));
+                cases.push(case(&bytes[..bytes.len() - 1]));
+                bytes.extend([0x80, 0x00]);
+                cases.push(case(&bytes));
+            }
+        }
+    }
+    for first in EDGES {
+        cases.push(case(&[first]));
+        for second in EDGES {
+            cases.push(case(&[first, second]));
+            cases.extend(EDGES.map(|third| case(&[first, second, third])));
+        }
+    }
+    cases
+}
+
+fn random(random: &mut Random) -> Case {
+    let mut bytes = match random.below(4) {
+        0 => {
+            let near = 1 << random.pick(&[7, 14, 21, 28, 32, 33, 35]);
+            spelled(near + random.below(5) - 2, random.below(4))
+        }
+        1 => spelled(random.any_length(34), random.below(4)),
+        2 => {
+            let more = random.below(7);
+            let mut run: Vec<u8> = (0..more).map(|_| random.pick(&EDGES) | 0x80).collect();
+            run.push(random.pick(&EDGES));
+            run
+        }
+        _ => (0..random.below(9)).map(|_| random.byte()).collect(),
+    };
+    // now and then cut short
+    bytes.truncate(random.between(0, 40) as usize);
+    for _ in 0..random.below(4) {
+        bytes.push(random.byte());
+    }
+    case(&bytes)
+}

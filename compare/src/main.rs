@@ -1,0 +1,137 @@
+//! Asks the program `replay` and the Rust the same requests, and compares every answer.
+extern crate alloc;
+
+mod kinds;
+mod random;
+mod stand_in;
+
+// The Rust's own modules, which find the stand-in under the names of their crate.
+pub(crate) use stand_in::{binding_record, error, float_ext};
+#[allow(dead_code)]
+mod klv {
+    include!(concat!(env!("OUT_DIR"), "/klv.rs"));
+}
+
+use kinds::{Case, KINDS};
+use random::Random;
+use std::env;
+use std::fs;
+use std::io::{self, Write};
+use std::path::Path;
+use std::process::{Command, ExitCode, Stdio};
+use std::thread;
+
+// How many differing answers are printed, and how much of a line.
+const SHOWN: usize = 10;
+const WIDTH: usize = 300;
+
+fn at_the_limits() -> Vec<Case> {
+    KINDS.iter().flat_map(|kind| (kind.limits)()).collect()
+}
+
+// So many requests, of each kind in turn.
+fn at_random(seed: u64, count: usize) -> Vec<Case> {
+    let mut random = Random::new(seed);
+    let kinds = KINDS.iter().cycle().take(count);
+    kinds.map(|kind| (kind.random)(&mut random)).collect()
+}
+
+fn lines_of(cases: &[Case], line: fn(&Case) -> &str) -> String {
+    cases.iter().flat_map(|case| [line(case), "\n"]).collect()
+}
+
+// What the program writes when it is given the requests.
+fn asked(program: &[String], cases: &[Case]) -> io::Result<String> {
+    let requests = lines_of(cases, |case| &case.request);
+    let mut child = Command::new(&program[0])
+        .args(&program[1..])
+        .stdin(Stdio::piped())
+        .stdout(Stdio::piped())
+        .spawn()?;
+    // from a thread of its own, since both pipes can fill
+    let mut input = child.stdin.take().unwrap();
+    let writer = thread::spawn(move || input.write_all(requests.as_bytes()));
+    let output = child.wait_with_output()?;
+    writer.join().unwrap()?;
+    if !output.status.success() {
+        let ended = format!("the program ended with {}", output.status);
+        return Err(io::Error::other(ended));
+    }
+    String::from_utf8(output.stdout).map_err(io::Error::other)
+}
+
+fn cut(line: &str) -> String {
+    if line.len() <= WIDTH {
+        line.to_string()
+    } else {
+        format!("{line:.WIDTH$}.. of {} bytes", line.len())
+    }
+}
+
+// How many answers differ; the first of them are printed.
+fn differing(cases: &[Case], answers: &str) -> usize {
+    let mut lines = answers.split_terminator('\n');
+    let mut count = 0;
+    for case in cases {
+        let line = lines.next().unwrap_or("(no answer)");
+        if line == case.answer {
+            continue;
+        }
+        count += 1;
+        if count <= SHOWN {
+            println!("request {}", cut(&case.request));
+            println!("  Rust  {}", cut(&case.answer));
+            println!("  port  {}", cut(line));
+        }
+    }
+    let more = lines.count();
+    if more > 0 {
+        println!("{more} lines more than requests");
+    }
+    count + more
+}
+
+fn compare(seed: u64, count: usize, program: &[String]) -> io::Result<ExitCode> {
+    let mut cases = at_the_limits();
+    cases.extend(at_random(seed, count));
+    let answers = asked(program, &cases)?;
+    let differ = differing(&cases, &answers);
+    for kind in &KINDS {
+        let is_kind = |case: &&Case| case.request.split(' ').next() == Some(kind.name);
+        let compared = cases.iter().filter(is_kind).count();
+        println!("{}: {compared} compared", kind.name);
+    }
+    println!("{} compared, {differ} differ", cases.len());
+    Ok(ExitCode::from(u8::from(differ > 0)))
+}
+
+// The requests into sample.req, and the Rust's answers into sample.ans.
+fn sample(seed: u64, count: usize, folder: &Path) -> io::Result<ExitCode> {
+    let cases = at_random(seed, count);
+    let requests = folder.join("sample.req");
+    let answers = folder.join("sample.ans");
+    fs::write(&requests, lines_of(&cases, |case| &case.request))?;
+    fs::write(&answers, lines_of(&cases, |case| &case.answer))?;
+    println!("{}\n{}", requests.display(), answers.display());
+    Ok(ExitCode::SUCCESS)
+}
+
+fn main() -> ExitCode {
+    let words: Vec<String> = env::args().skip(1).collect();
+    let number = |word: &String| word.parse().expect("SEED and COUNT are numbers");
+    let ended = match words.as_slice() {
+        [mode, seed, count, folder] if mode == "--sample" => {
+            sample(number(seed), number(count) as usize, Path::new(folder))
+        }
+        [seed, count, program @ ..] if !program.is_empty() => {
+            compare(number(seed), number(count) as usize, program)
+        }
+        _ => Err(io::Error::other(
+            "usage: compare SEED COUNT PROGRAM.. | compare --sample SEED COUNT FOLDER",
+        )),
+    };
+    ended.unwrap_or_else(|error| {
+        eprintln!("compare: {error}");
+        ExitCode::from(2)
+    })
+}
