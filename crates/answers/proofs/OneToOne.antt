@@ -70,3 +70,8 @@ written-one (Done n) (Done m) e = let c : plains (written (Done n) .carries) ≡
 written-one (Done n) (Refused s) e = absurd (done-not-refused (written (Done n)) s refl e)
 written-one (Refused r) (Done m) e = absurd (done-not-refused (written (Done m)) r refl (sym e))
 written-one (Refused r) (Refused s) e = ap Refused (listed-one r s e)
+
+-- a writer's contract gives one answer: what `left` says that an answer leaves is left
+pub writer-one : (left : Answer → List ℕ) {a : Answer} (r s : Written) {l m : List ℕ}
+    → (written r ≡ a) × (l ≡ left (written r)) → (written s ≡ a) × (m ≡ left (written s)) → (r ≡ s) × (l ≡ m)
+writer-one left r s p q = let e = p .0 ∙ sym (q .0) in (written-one r s e, p .1 ∙ ap left e ∙ sym (q .1))

@@ -1,18 +1,23 @@
 -- Words and their bytes: each is read back from what the other was written as.
 -- Assumes nothing.
-use mathlib.Core.Path.{_≡_}
-use mathlib.Core.List.{List}
-use Prim.Native.Nat.{ℕ, _%_, _^_, _≤_, _<_}
-use native.Mathlib.Nat.{pow-le-pow-right, mod-eq-of-lt, mod-lt, le-trans, one-mul, zero-mul, zero-add, one-le-pow}
+use mathlib.Core.Path.{_≡_, refl, sym, ap, _∙_}
+use mathlib.Core.List.{List, [], _∷_}
+use Prim.Native.Nat.{ℕ, zero, suc, _*_, _+_, _-_, _/_, _%_, _^_, _≤_, _<_}
+use native.Mathlib.Nat.{pow-le-pow-right, pow-suc, mod-eq-of-lt, mod-lt, le-trans, one-mul, zero-mul, zero-add, one-le-pow}
 use native.Mathlib.Omega.{arith}
-use lib.ListN.{length}
+use lib.ListN.{length, getD}
+use lib.Pow.{pow-add}
 use Rattle.numbers.specs.Words.{wordOf, bytesOf}
 use Rattle.numbers.specs.Digits.{Below}
-use Rattle.numbers.proofs.Digits.{spelt-lt, spelt-digits, digits-spelt}
+use Rattle.numbers.proofs.Digits.{length-digits, spelt-lt, spelt-high, spelt-digits, digits-spelt}
 
 -- eight bytes hold no more than 64 bits
 within : {n k : ℕ} → n < 256 ^ k → k ≤ 8 → n % 2 ^ 64 ≡ n
 within {n} {k} h e = mod-eq-of-lt (le-trans h (pow-le-pow-right {n = 256} (omega arith) {i = k} {j = 8} e))
+
+pub length-bytes : (k n : ℕ) → length (bytesOf k n) ≡ k
+unfolding bytesOf
+length-bytes k n = length-digits 256 0 k n
 
 pub word-of-bytes : (k n : ℕ) → k ≤ 8 → wordOf (bytesOf k n) ≡ n % 256 ^ k
 unfolding wordOf bytesOf
@@ -22,3 +27,17 @@ word-of-bytes k n h =
 pub bytes-of-word : (l : List ℕ) → length l ≤ 8 → Below 256 l → bytesOf (length l) (wordOf l) ≡ l
 unfolding wordOf bytesOf
 bytes-of-word l h b = rw (within (rw one-mul at (spelt-lt 256 (omega arith) {a = 0} {m = 1} (omega arith) l)) h) (digits-spelt 256 l b)
+
+-- the place of a byte, in bits
+pub bits : (k : ℕ) → 256 ^ k ≡ 2 ^ (8 * k)
+bits zero = refl
+bits (suc k) = rw (pow-suc, bits k) (sym (pow-add 2 (8 * k) 8) ∙ ap (λ (n : ℕ). 2 ^ n) (omega arith))
+
+-- the first byte of a word
+pub first-byte : (l : List ℕ) → 1 ≤ length l → length l ≤ 8 → getD l 0 0 < 256 → wordOf l / 2 ^ (8 * length l - 8) ≡ getD l 0 0
+unfolding wordOf
+first-byte [] o h b = absurd (omega arith)
+first-byte (d ∷ l) o h b =
+    let p : 8 * suc (length l) - 8 ≡ 8 * length l = omega arith in
+    let q = within (rw one-mul at (spelt-lt 256 (omega arith) {a = 0} {m = 1} (omega arith) (d ∷ l))) h in
+    rw (q, p, ← (bits (length l)), spelt-high 256 (omega arith) (0 * 256 + d % 256) l) (omega arith)

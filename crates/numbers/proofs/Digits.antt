@@ -3,7 +3,7 @@
 use mathlib.Core.Path.{_≡_, refl}
 use mathlib.Core.List.{List, [], _∷_, _++_, append-nil}
 use Prim.Native.Nat.{ℕ, zero, suc, _+_, _*_, _-_, _/_, _%_, _^_, _≤_, _<_}
-use native.Mathlib.Nat.{pow-suc, pow-succ', pow-zero, mul-one, mul-assoc, add-mul, mod-one, mod-mod, mod-lt, add-zero, zero-add, zero-mul, mod-eq-of-lt, le-trans, one-le-pow, mul-add-mod-self-right, le-mul-of-pos-right}
+use native.Mathlib.Nat.{pow-suc, pow-succ', pow-zero, div-one, div-div-eq-div-mul, mul-one, mul-assoc, add-mul, mod-one, mod-mod, mod-lt, add-zero, zero-add, zero-mul, mod-eq-of-lt, le-trans, one-le-pow, mul-add-mod-self-right, le-mul-of-pos-right}
 use native.Mathlib.Numerals.{add-one}
 use native.Mathlib.Omega.{arith}
 use lib.Arith.{digits-lt, digits-div, digits-mod, mod-mul}
@@ -51,6 +51,13 @@ module _ (base : ℕ) where
     spelt-le : (a : ℕ) (l : List ℕ) → a ≤ spelt base a l
     spelt-le a [] = omega arith
     spelt-le a (d ∷ ds) = le-trans (omega (arith, le-mul-of-pos-right a positive)) (spelt-le (a * base + d % base) ds)
+
+    -- what the digits were read after
+    pub spelt-high : (a : ℕ) (l : List ℕ) → spelt base a l / base ^ length l ≡ a
+    spelt-high a [] = rw pow-zero (div-one a)
+    spelt-high a (d ∷ ds) =
+        let b = mod-lt d positive in
+        rw (pow-suc, ← div-div-eq-div-mul, spelt-high (a * base + d % base) ds) (digits-div a b)
 
     -- more digits never spell less
     pub spelt-take-le : (a : ℕ) {j k : ℕ} (l : List ℕ) → j ≤ k → spelt base a (take j l) ≤ spelt base a (take k l)

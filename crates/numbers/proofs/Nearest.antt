@@ -7,13 +7,27 @@ use native.Mathlib.Nat.{le-of-lt, add-comm, zero-add, mul-one, mod-eq-of-lt, min
 use native.Mathlib.Omega.{arith}
 use lib.Count.{leadingZeros, leading-top}
 use lib.Dec.{lit≤}
+use lib.IntN.{pos}
+use borrow.Author.Tests.{le-ltb}
 use lib.Pow.{pow-pos, shl-lt}
-use lib.Ieee.{binary32, binary64, round, toBits, ofInt}
+use lib.Ieee.{binary32, binary64, round, toBits, ofBits, nanBits, ofInt}
+use lib.Ieee.Bits.{nanBits-above, ofBits-toBits}
+use lib.Ieee.Fits.{ofInt-fits}
 use lib.Ieee.Nearest.{closest}
 use Rattle.numbers.specs.Conversions.{converted, nearestBits}
 use Rattle.numbers.proofs.Closest.{closest-le}
-use Rattle.numbers.proofs.Rounding.{rounded-bits}
+use Rattle.numbers.proofs.Rounding.{bits-of-round, rounded-bits}
 use Rattle.numbers.proofs.Patterns.{subnormal-bits}
+
+-- the nearest binary64 is never a NaN, and its bits give it back
+pub nearest-number : (n : ℕ) → nanBits binary64 (nearestBits n) ≡ false
+unfolding nearestBits ofInt
+nearest-number n =
+    nanBits-above binary64 (nearestBits n) ∙ le-ltb (2047 * 2 ^ 52) (nearestBits n % 2 ^ 63) (omega (arith, bits-of-round binary64 false n 1))
+
+pub nearest-value : (n : ℕ) → ofBits binary64 (nearestBits n) ≡ ofInt binary64 (pos n)
+unfolding nearestBits
+nearest-value n = ofBits-toBits binary64 (ofInt binary64 (pos n)) (ofInt-fits binary64 (pos n))
 
 -- n has 64 digits once it is moved up by its d leading zeros, and 53 are kept
 module _ (n z d : ℕ) (all : d + suc z ≡ 64) (lo : 2 ^ z ≤ n) (hi : n < 2 ^ suc z) where

@@ -6,7 +6,7 @@ use denote.Ref.{now}
 use Rattle.answers.specs.OneAnswer.{OneResult, OneAnswer}
 use Rattle.answers.specs.Lent.{leaves}
 use Rattle.answers.specs.Table.{Answer}
-use Rattle.answers.proofs.OneToOne.{written-one}
+use Rattle.answers.proofs.OneToOne.{writer-one}
 use Rattle.numbers.specs.declared.ber_oid.BerOid.{BerOid}
 use Rattle.numbers.specs.declared.ber_oid.BerOid.the-variants.{Read, Unreadable}
 use Rattle.numbers.specs.BerOid.{oidListed, oidBytes}
@@ -40,9 +40,7 @@ pub write-be-one : OneAnswer write-be.Learnt (λ κs s. now (s .1 .0))
 write-be-one κs a r r′ s s′ p q = (refl, p ∙ sym q)
 
 pub write-ber-oid-one : OneAnswer write-ber-oid.Learnt (λ κs s. now (s .1 .0))
-write-ber-oid-one κs a r r′ s s′ p q =
-    let e = p .0 ∙ sym (q .0) in
-    (written-one r r′ e, p .1 ∙ ap (λ (x : Answer). leaves x (oidBytes (a .0)) (now (a .1 .0))) e ∙ sym (q .1))
+write-ber-oid-one κs a r r′ s s′ p q = writer-one (λ x. leaves x (oidBytes (a .0)) (now (a .1 .0))) r r′ p q
 
 pub nearest-binary64-one : OneResult nearest-binary64.Learnt
 nearest-binary64-one κs a r r′ s s′ p q = p ∙ sym q

@@ -28,7 +28,7 @@ use Rattle.numbers.proofs.Patterns.{subnormal-value, normal-value}
 abbrev cut : Float → WholePart
 cut x = pick (le (fin false 0 (pos 0)) x && lt x (fin false 1 (pos 64))) (Whole (toUnsigned 64 x)) Nothing
 
-reached : (x : Float) (a c : ℕ) → 0 < c → HasValue x false a c → le (fin false 0 (pos 0)) x ≡ true
+pub reached : (x : Float) (a c : ℕ) → 0 < c → HasValue x false a c → le (fin false 0 (pos 0)) x ≡ true
 reached x a c C h = is-true (le (fin false 0 (pos 0)) x) (le-of-values (fin false 0 (pos 0)) x 0 1 a c (lit< tt) C (refl, refl) h (le-trans (le-of-eq (zero-mul c)) zero-le))
 
 -- the value x / d is a / c
@@ -45,16 +45,25 @@ above a c x d C e h =
     let q : 2 ^ 64 * d ≤ x = le-of-mul-le-mul-right r C in
     omega arith
 
-whole : (x : Float) (a c n : ℕ) → 0 < c → HasValue x false a c → a < 2 ^ 64 * c → a / c ≡ n → cut x ≡ Whole n
-unfolding lt toUnsigned
-whole nan a c n C h l e = absurd h
-whole (inf s) a c n C h l e = absurd h
-whole (fin true m x) a c n C h l e = absurd (true≢false (h .0))
-whole (fin false m x) a c n C h l e =
-    let q : m * up x / down x ≡ n = div-same (m * up x) (down x) a c (down-pos x) C (h .1) ∙ e in
+pub under : (x : Float) (a c : ℕ) → HasValue x false a c → a < 2 ^ 64 * c → lt x (fin false 1 (pos 64)) ≡ true
+unfolding lt
+under nan a c h l = absurd h
+under (inf s) a c h l = absurd h
+under (fin true m x) a c h l = absurd (true≢false (h .0))
+under (fin false m x) a c h l = lt-ltb (m * up x * 1) (2 ^ 64 * down x) (below a c (m * up x) (down x) (down-pos x) (h .1) l)
+
+pub whole-of : (x : Float) (a c : ℕ) → 0 < c → HasValue x false a c → a < 2 ^ 64 * c → toUnsigned 64 x ≡ a / c
+unfolding toUnsigned
+whole-of nan a c C h l = absurd h
+whole-of (inf s) a c C h l = absurd h
+whole-of (fin true m x) a c C h l = absurd (true≢false (h .0))
+whole-of (fin false m x) a c C h l =
+    let q : m * up x / down x ≡ a / c = div-same (m * up x) (down x) a c (down-pos x) C (h .1) in
     let f : a / c < 2 ^ 64 = div-lt-iff-lt-mul C .1 l in
-    let k : min (m * up x / down x) (2 ^ 64 - 1) ≡ n = min-eq-left (omega arith) ∙ q in
-    rw (reached (fin false m x) a c C h, lt-ltb (m * up x * 1) (2 ^ 64 * down x) (below a c (m * up x) (down x) (down-pos x) (h .1) l)) (ap Whole k)
+    min-eq-left (omega arith) ∙ q
+
+whole : (x : Float) (a c n : ℕ) → 0 < c → HasValue x false a c → a < 2 ^ 64 * c → a / c ≡ n → cut x ≡ Whole n
+whole x a c n C h l e = rw (reached x a c C h, under x a c h l, whole-of x a c C h l) (ap Whole e)
 
 nothing : (x : Float) (a c : ℕ) → 0 < c → HasValue x false a c → 2 ^ 64 * c ≤ a → cut x ≡ Nothing
 unfolding lt

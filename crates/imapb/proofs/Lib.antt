@@ -1,0 +1,16 @@
+pub mod Table
+pub mod Length
+pub mod Range
+pub mod Rounded
+pub mod Units
+pub mod Above
+pub mod Near
+pub mod Mapped
+pub mod UnitRange
+pub mod Law
+pub mod Written
+pub mod Zeros
+pub mod Exact
+pub mod ReadBack
+pub mod OneAnswer
+pub mod Examples

@@ -1,0 +1,4 @@
+pub mod Mapping
+pub mod Special
+pub mod Tables
+pub mod Precision

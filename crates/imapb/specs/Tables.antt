@@ -1,0 +1,50 @@
+-- Document 01, "Mapped values alone": the answers, in its order.
+use Prim.Native.Nat.{ℕ, _-_, _*_, _^_}
+use mathlib.Core.Bool.{Bool, not, _&&_}
+use mathlib.Core.List.{List, [], _∷_}
+use lib.Dec.{leb, ltb, eqb}
+use lib.ListN.{length}
+use lib.Ieee.{binary64, ofBits, toBits}
+use Rattle.answers.specs.Table.{Answer, answer, bits64, wholes, pick}
+use Rattle.answers.specs.Listed.{listed}
+use Rattle.numbers.specs.Words.{wordOf}
+use Rattle.imapb.specs.declared.special.ImapbSpecial.{ImapbSpecial}
+use Rattle.imapb.specs.declared.decode.DecodedImapb.{DecodedImapb}
+use Rattle.imapb.specs.declared.decode.ImapbRead.{ImapbRead}
+use Rattle.imapb.specs.declared.decode.ImapbRead.the-variants.{Done, Refused}
+use Rattle.imapb.specs.Mapping.{one, minusOne, inRange}
+use Rattle.imapb.specs.Special.{payload, reading}
+
+-- done carries what the code reads as
+pub data Reading : Type 0 where
+  reads : DecodedImapb → Reading
+  refused : Answer → Reading
+
+abbrev pub imapbListed : ImapbRead → Reading
+imapbListed (Done d) = reads d
+imapbListed (Refused r) = refused (listed r)
+
+-- length 1 to 8
+abbrev pub supported : ℕ → Bool
+supported L = leb 1 L && leb L 8
+
+abbrev pub imapbRead : ℕ → List ℕ → Reading
+imapbRead L bytes =
+    pick (not (supported L)) (refused (answer 4 (wholes (L ∷ []))))
+    (pick (not (eqb (length bytes) L)) (refused (answer 2 (wholes (L ∷ length bytes ∷ []))))
+    (reads (reading L (wordOf bytes))))
+
+-- v by its bits
+abbrev pub imapbWritten : ℕ → ℕ → ℕ → Answer
+imapbWritten L v room =
+    pick (not (supported L)) (answer 4 (wholes (L ∷ [])))
+    (pick (ltb room L) (answer 5 (wholes (L ∷ room ∷ [])))
+    (pick (not (inRange (ofBits binary64 v))) (answer 3 (bits64 v ∷ bits64 (toBits binary64 minusOne) ∷ bits64 (toBits binary64 one) ∷ []))
+    (answer 0 (wholes (L ∷ [])))))
+
+abbrev pub specialWritten : ℕ → ImapbSpecial → ℕ → Answer
+specialWritten L s room =
+    pick (not (supported L)) (answer 4 (wholes (L ∷ [])))
+    (pick (ltb room L) (answer 5 (wholes (L ∷ room ∷ [])))
+    (pick (leb (2 ^ (8 * L - 5)) (payload L s)) (answer 3 (wholes (payload L s ∷ 0 ∷ (2 ^ (8 * L - 5) - 1) ∷ [])))
+    (answer 0 (wholes (L ∷ [])))))

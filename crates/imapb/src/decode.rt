@@ -1,0 +1,106 @@
+//! What a code of mapped form reads as.
+use crate::special::ImapbSpecial;
+use answers::Refusal;
+ghost use mathlib.Core.Path.{_≡_};
+ghost use Prim.Native.Nat.{_≤_, _^_, _*_, _-_, _/_};
+ghost use Rattle.imapb.specs.Mapping.{valueOf};
+ghost use Rattle.imapb.specs.Special.{overflowReading, specialReading, reading};
+ghost use Rattle.imapb.specs.Tables.{imapbListed, imapbRead};
+
+// Under the Rust's names: a value, a special, a pattern that the tables reserve with its y, or a number above the range.
+pub enum DecodedImapb {
+    Value(f64),
+    Special(ImapbSpecial),
+    ReservedSpecial { raw: u64 },
+    OutOfRange { decoded: f64 },
+}
+
+pub enum ImapbRead {
+    Done(DecodedImapb),
+    Refused(Refusal),
+}
+
+// y as the nearest binary64, scaled exactly, less 1.
+fn value_of(length: usize, y: u64) -> f64
+    requires { ⌜ (1 ≤ length) × (length ≤ 8) ⌝ }
+    ensures { λ r. ⌜ r ≡ valueOf length y ⌝ }
+{
+    f64::from_bits(numbers::conversions::nearest_binary64(y)) / crate::scale(length) - 1.0
+}
+
+// A code whose top two bits are set: its family and its payload decide.
+fn classify_imapb_special(length: usize, family: u8, payload: u64, y: u64) -> DecodedImapb
+    requires { ⌜ (1 ≤ length) × (length ≤ 8) ⌝ }
+    ensures { λ r. ⌜ r ≡ specialReading length family payload y ⌝ }
+{
+    let reserved = DecodedImapb::ReservedSpecial { raw: y };
+    match family {
+        0b11000 => DecodedImapb::Special(ImapbSpecial::UserDefined { signal: payload }),
+        0b11001 => if payload == 0 {
+            DecodedImapb::Special(ImapbSpecial::PositiveInfinity)
+        } else {
+            reserved
+        },
+        0b11010 => DecodedImapb::Special(ImapbSpecial::PositiveQuietNaN { nan_id: payload }),
+        0b11011 => DecodedImapb::Special(ImapbSpecial::PositiveSignalingNaN { signal: payload }),
+        0b11100 => overflow_signal(length, payload, y),
+        0b11101 => if payload == 0 {
+            DecodedImapb::Special(ImapbSpecial::NegativeInfinity)
+        } else {
+            reserved
+        },
+        0b11110 => DecodedImapb::Special(ImapbSpecial::NegativeQuietNaN { nan_id: payload }),
+        0b11111 => DecodedImapb::Special(ImapbSpecial::NegativeSignalingNaN { signal: payload }),
+        _ => reserved,
+    }
+}
+
+// Table 3: byte E0 or E1, followed only by zeros.
+fn overflow_signal(length: usize, payload: u64, y: u64) -> DecodedImapb
+    requires { ⌜ (1 ≤ length) × (length ≤ 8) ⌝ }
+    ensures { λ r. ⌜ r ≡ overflowReading length payload y ⌝ }
+{
+    if payload == 0 {
+        return DecodedImapb::Special(ImapbSpecial::BelowMin);
+    }
+    if payload == crate::top_code(length) / 128 {
+        DecodedImapb::Special(ImapbSpecial::AboveMax)
+    } else {
+        DecodedImapb::ReservedSpecial { raw: y }
+    }
+}
+
+// What the code y reads as, whose first byte is given.
+fn reading_of(length: usize, first: u8, y: u64) -> DecodedImapb
+    requires { ⌜ (1 ≤ length) × (length ≤ 8) × (y / 2 ^ (8 * length - 8) ≡ first) ⌝ }
+    ensures { λ r. ⌜ r ≡ reading length y ⌝ }
+{
+    if 0b1100_0000 <= first {
+        return classify_imapb_special(length, first / 8, y % (crate::top_code(length) / 16), y);
+    }
+    let value = value_of(length, y);
+    if y <= crate::top_code(length) {
+        DecodedImapb::Value(value)
+    } else {
+        DecodedImapb::OutOfRange { decoded: value }
+    }
+}
+
+// What the code reads as.
+pub fn decode_imapb(length: usize, bytes: &[u8]) -> ImapbRead
+    ensures { λ r. ⌜ imapbListed r ≡ imapbRead length (now (bytes .entry)) ⌝ }
+{
+    if length < 1 {
+        return ImapbRead::Refused(Refusal::UnsupportedImapbLength { length });
+    }
+    if 8 < length {
+        return ImapbRead::Refused(Refusal::UnsupportedImapbLength { length });
+    }
+    if bytes.len() != length {
+        return ImapbRead::Refused(Refusal::InvalidLength {
+            expected: length,
+            got: bytes.len(),
+        });
+    }
+    ImapbRead::Done(reading_of(length, bytes[0], numbers::words::read_be(bytes)))
+}
