@@ -1,8 +1,13 @@
 //! The kinds of request that are compared, a file for each.
+use crate::klv::imapb::ImapbParams;
 use crate::random::Random;
 
+mod lent;
+mod map;
+mod mapped;
 mod narrow;
 mod oid;
+mod special;
 mod widen;
 
 // A request and what the Rust answers to it, in the form of an answer of the program.
@@ -19,7 +24,14 @@ pub struct Kind {
     pub random: fn(&mut Random) -> Case,
 }
 
-pub const KINDS: [Kind; 3] = [oid::KIND, widen::KIND, narrow::KIND];
+pub const KINDS: [Kind; 6] = [
+    oid::KIND,
+    widen::KIND,
+    narrow::KIND,
+    mapped::KIND,
+    map::KIND,
+    special::KIND,
+];
 
 // A byte string as requests and answers spell it.
 fn hex(bytes: &[u8]) -> String {
@@ -27,4 +39,13 @@ fn hex(bytes: &[u8]) -> String {
         return "-".to_string();
     }
     bytes.iter().map(|byte| format!("{byte:02X}")).collect()
+}
+
+// The one range of the port.
+fn params(length: usize) -> ImapbParams {
+    ImapbParams {
+        min: -1.0,
+        max: 1.0,
+        length,
+    }
 }

@@ -103,6 +103,19 @@ pub fn decimal(line: &[u8], at: usize) -> Number
     Number::Read { value, next }
 }
 
+// The decimal number and the space after it.
+pub fn decimal_before_space(line: &[u8], at: usize) -> Number {
+    let number = decimal(line, at);
+    let Number::Read { value, next } = number else {
+        return Number::Malformed;
+    };
+    let space = past(line, next, b" ");
+    let Place::At(after) = space else {
+        return Number::Malformed;
+    };
+    Number::Read { value, next: after }
+}
+
 // The bytes that pairs of hex digits spell, into the front of `bytes`.
 fn pairs(line: &[u8], at: usize, bytes: &mut [u8]) -> Bytes
     ensures { λ r. ⌜ Spelled (length (now (bytes .entry))) r ⌝ }

@@ -1,13 +1,18 @@
 //! Answers requests: a line of standard input each, and a line of standard output for each.
+mod kind;
+mod lent;
 mod line;
+mod mapped;
+mod numeric;
 mod output;
 mod part;
+mod refusal;
 mod requests;
 
 // A request of 300,000 bytes in hex, or of 33,300 numbers of 16 digits, with room to spare.
 const LINE: usize = 655_360;
 
-// No line spells more bytes.
+// No line spells more bytes, and no request is lent more.
 const BYTES: usize = LINE / 2;
 
 // How far a block has been taken, how much of a line that gave, and whether a newline ended the line.
@@ -52,7 +57,7 @@ fn take_line(block: &[u8], at: usize, line: &mut [u8], read: usize) -> Taken {
 // The answer to a line of which so much was read. A line that fills its room is too long.
 fn answer_line(line: &[u8], read: usize, bytes: &mut [u8], out: &mut [u8], held: usize) -> usize {
     if line.len() <= read {
-        let refused = requests::bad_request(out, held);
+        let refused = refusal::bad_request(out, held);
         return output::put(out, refused, b'\n');
     }
     let count = part::within(read, line);

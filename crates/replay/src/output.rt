@@ -4,6 +4,12 @@ ghost use mathlib.Core.Path.{_≡_};
 ghost use Prim.Native.Nat.{_≤_};
 ghost use lib.ListN.{length};
 
+// What is held after an answer, or that there is none.
+pub enum Answered {
+    Held(usize),
+    Nothing,
+}
+
 // A byte more is held.
 pub fn put(out: &mut [u8], held: usize, byte: u8) -> usize
     ensures { λ r. ⌜ r ≤ length (now (out .entry)) ⌝ }
@@ -41,6 +47,14 @@ pub fn put_decimal(out: &mut [u8], held: usize, value: u64) -> usize
     put_text(out, held, &digits[..count])
 }
 
+// A space and a whole number.
+pub fn put_whole(out: &mut [u8], held: usize, value: u64) -> usize
+    ensures { λ r. ⌜ r ≤ length (now (out .entry)) ⌝ }
+{
+    let spaced = put(out, held, b' ');
+    put_decimal(out, spaced, value)
+}
+
 // The upper-case hex digit of a number below 16.
 fn digit(value: u64) -> u8 {
     if value < 10 {
@@ -60,6 +74,30 @@ pub fn put_hex(out: &mut [u8], held: usize, value: u64, digits: usize) -> usize
         left -= 1;
         let shifted = if left < 16 { value >> (4 * left) } else { 0 };
         at = put(out, at, digit(shifted % 16));
+    }
+    at
+}
+
+// A space and the bits of a binary64.
+pub fn put_bits(out: &mut [u8], held: usize, bits: u64) -> usize
+    ensures { λ r. ⌜ r ≤ length (now (out .entry)) ⌝ }
+{
+    let spaced = put(out, held, b' ');
+    put_hex(out, spaced, bits, 16)
+}
+
+// The byte string: hex, or `-` where it is empty.
+pub fn put_bytes(out: &mut [u8], held: usize, bytes: &[u8]) -> usize
+    ensures { λ r. ⌜ r ≤ length (now (out .entry)) ⌝ }
+{
+    if bytes.len() == 0 {
+        return put(out, held, b'-');
+    }
+    let mut at = within(held, out);
+    let mut i: usize = 0;
+    while i < bytes.len() {
+        at = put_hex(out, at, bytes[i] as u64, 2);
+        i += 1;
     }
     at
 }

@@ -1,101 +1,22 @@
-//! The requests: each reads its words, calls a function of the port, and writes what that answers.
-use crate::line;
-use crate::line::Bytes;
-use crate::line::Number;
-use crate::line::Place;
-use crate::output;
-use crate::part::within;
-use numbers::ber_oid::BerOid;
-use numbers::ber_oid::read_ber_oid;
-use numbers::conversions::binary32_to_binary64;
-use numbers::conversions::binary64_to_binary32;
+//! The requests: each reads its words, calls a function of the port, and writes what that answers. A file for each group of them.
+use crate::mapped;
+use crate::numeric;
+use crate::output::Answered;
+use crate::refusal::bad_request;
 ghost use Prim.Native.Nat.{_≤_};
 ghost use lib.ListN.{length};
-
-pub fn bad_request(out: &mut [u8], held: usize) -> usize
-    ensures { λ r. ⌜ r ≤ length (now (out .entry)) ⌝ }
-{
-    output::put_text(out, held, b"bad request")
-}
-
-// How many bytes are left of so many.
-fn left_of(count: usize, taken: usize) -> usize {
-    if taken < count { count - taken } else { 0 }
-}
-
-fn put_oid(out: &mut [u8], held: usize, bytes: &[u8]) -> usize
-    ensures { λ r. ⌜ r ≤ length (now (out .entry)) ⌝ }
-{
-    let read = read_ber_oid(bytes);
-    let BerOid::Read { value, taken } = read else {
-        return output::put_text(out, held, b"refused 1");
-    };
-    let named = output::put_text(out, held, b"oid ");
-    let valued = output::put_decimal(out, named, value as u64);
-    let spaced = output::put(out, valued, b' ');
-    output::put_decimal(out, spaced, left_of(bytes.len(), taken) as u64)
-}
-
-// oid HEX
-fn oid(line: &[u8], at: usize, bytes: &mut [u8], out: &mut [u8], held: usize) -> usize
-    ensures { λ r. ⌜ r ≤ length (now (out .entry)) ⌝ }
-{
-    let string = line::byte_string(line, at, bytes);
-    let Bytes::Read { count, next } = string else {
-        return bad_request(out, held);
-    };
-    if next != line.len() {
-        return bad_request(out, held);
-    }
-    let given = within(count, bytes);
-    put_oid(out, held, &bytes[..given])
-}
-
-// widen BITS32
-fn widen(line: &[u8], at: usize, out: &mut [u8], held: usize) -> usize
-    ensures { λ r. ⌜ r ≤ length (now (out .entry)) ⌝ }
-{
-    let number = line::hex(line, at, 8);
-    let Number::Read { value, next } = number else {
-        return bad_request(out, held);
-    };
-    if next != line.len() {
-        return bad_request(out, held);
-    }
-    // eight digits stay below 2^32
-    let bits = (value % 0x1_0000_0000) as u32;
-    output::put_hex(out, held, binary32_to_binary64(bits), 16)
-}
-
-// narrow BITS
-fn narrow(line: &[u8], at: usize, out: &mut [u8], held: usize) -> usize
-    ensures { λ r. ⌜ r ≤ length (now (out .entry)) ⌝ }
-{
-    let number = line::hex(line, at, 16);
-    let Number::Read { value, next } = number else {
-        return bad_request(out, held);
-    };
-    if next != line.len() {
-        return bad_request(out, held);
-    }
-    output::put_hex(out, held, binary64_to_binary32(value) as u64, 8)
-}
 
 // The answer to a line, without its newline.
 pub fn answer(line: &[u8], bytes: &mut [u8], out: &mut [u8], held: usize) -> usize
     ensures { λ r. ⌜ r ≤ length (now (out .entry)) ⌝ }
 {
-    let after_oid = line::past(line, 0, b"oid ");
-    if let Place::At(at) = after_oid {
-        return oid(line, at, bytes, out, held);
+    let on_numbers = numeric::answer(line, bytes, out, held);
+    if let Answered::Held(answered) = on_numbers {
+        return answered;
     }
-    let after_widen = line::past(line, 0, b"widen ");
-    if let Place::At(at) = after_widen {
-        return widen(line, at, out, held);
-    }
-    let after_narrow = line::past(line, 0, b"narrow ");
-    if let Place::At(at) = after_narrow {
-        return narrow(line, at, out, held);
+    let on_codes = mapped::answer(line, bytes, out, held);
+    if let Answered::Held(answered) = on_codes {
+        return answered;
     }
     bad_request(out, held)
 }
