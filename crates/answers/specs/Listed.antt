@@ -1,6 +1,5 @@
 -- This paper's number and values for each case of each enum: what the promises speak of.
-use Prim.Native.Nat.{ℕ}
-use mathlib.Core.List.{List, [], _∷_}
+use mathlib.Core.List.{[], _∷_}
 use Rattle.answers.specs.declared.Refusal.{Refusal}
 use Rattle.answers.specs.declared.Refusal.the-variants.{
   TruncatedField,
@@ -14,7 +13,7 @@ use Rattle.answers.specs.declared.Refusal.the-variants.{
 }
 use Rattle.answers.specs.declared.Written.{Written}
 use Rattle.answers.specs.declared.Written.the-variants.{Done, Refused}
-use Rattle.answers.specs.Table.{Answer, answer, whole, bits64, wholes}
+use Rattle.answers.specs.Table.{Answer, answer, bits64, wholes}
 
 abbrev pub listed : Refusal → Answer
 listed TruncatedField = answer 1 []

@@ -1,7 +1,7 @@
 -- ST 1201.5's mapping of a number to a code of L bytes and back, with the roundings that document 01 names.
-use Prim.Native.Nat.{ℕ, _+_, _-_, _*_, _^_}
+use Prim.Native.Nat.{ℕ, _-_, _*_, _^_}
 use mathlib.Core.Bool.{Bool, true, false, _&&_}
-use lib.IntN.{ℤ, pos}
+use lib.IntN.{pos}
 use lib.Ieee.{Float, fin, binary64, add, sub, mul, div, ofInt, toUnsigned, le}
 
 abbrev pub power : ℕ → Float

@@ -1,14 +1,14 @@
 -- What `converted` makes of a binary64 pattern b without its sign, arm by arm of `narrow_size`.
 -- Assumes nothing.
-use mathlib.Core.Path.{_≡_, refl, sym, ap, ap₂, _∙_}
-use mathlib.Core.Bool.{Bool, true, false}
+use mathlib.Core.Path.{_≡_, refl, sym, ap, _∙_}
+use mathlib.Core.Bool.{false}
 use Prim.Native.Nat.{ℕ, zero, suc, _+_, _-_, _*_, _/_, _%_, _^_, _≤_, _<_, min}
 use native.Mathlib.Nat.{zero-add, mul-one, eq-or-lt-of-le}
 use native.Mathlib.Omega.{arith}
 use mathlib.Core.Logic.{inl, inr}
 use lib.Dec.{lit≤}
 use lib.Pow.{pow-pos, pow-mono}
-use lib.Ieee.{binary32, binary64, round, toBits, nanBits, ofBits}
+use lib.Ieee.{binary32, binary64, toBits, nanBits, ofBits}
 use lib.Ieee.Nearest.{closest}
 use Rattle.numbers.specs.Conversions.{nearest, converted}
 use Rattle.numbers.proofs.Closest.{closest-le}

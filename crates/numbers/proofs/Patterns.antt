@@ -1,23 +1,21 @@
 -- A bit pattern by its sign, its exponent's field and its digits, and what `converted` makes of each kind: laws over both formats.
 -- Assumes nothing.
-use mathlib.Core.Path.{_≡_, refl, sym, ap, ap₂, _∙_, subst}
-use mathlib.Core.Bool.{Bool, true, false, not, _&&_, cond}
-use mathlib.Core.Logic.{_⊎_, inl, inr}
+use mathlib.Core.Path.{_≡_, refl, sym, ap, ap₂, _∙_}
+use mathlib.Core.Bool.{Bool, true, false, cond}
+use mathlib.Core.Logic.{inl, inr}
 use Prim.Native.Nat.{ℕ, zero, suc, _+_, _-_, _*_, _/_, _%_, _^_, _≤_, _<_, min}
-use native.Mathlib.Nat.{lt-irrefl, lt-of-not-le, le-trans, le-of-lt, le-of-suc-le-suc, mul-comm, div-add-mod', le-add-right, zero-add, add-assoc, div-eq-of-lt, mod-eq-of-lt, add-mod-left, mul-add-mod-self-left, div-lt-iff-lt-mul, eq-or-lt-of-le}
+use native.Mathlib.Nat.{lt-irrefl, lt-of-not-le, le-trans, le-of-lt, le-of-suc-le-suc, mul-comm, div-add-mod', le-add-right, zero-add, div-eq-of-lt, mod-eq-of-lt, add-mod-left, mul-add-mod-self-left, div-lt-iff-lt-mul, eq-or-lt-of-le}
 use native.Mathlib.Decide.{decLe}
 use native.Mathlib.Omega.{arith}
-use borrow.Author.Tests.{le-leb, lt-leb, lt-ltb, le-ltb, ne-eqb, eq-eqb}
-use lib.Arith.{digits-div, digits-mod, digits-lt}
-use lib.Dec.{T, leb, ltb, eqb, lit≤}
+use borrow.Author.Tests.{le-leb, lt-leb, lt-ltb, le-ltb, ne-eqb}
+use lib.Dec.{lit≤}
 use lib.Pow.{pow-pos}
-use lib.Ieee.{Float, nan, inf, fin, Format, binary32, binary64, prec, low, up, down, odd, round, ofFields, ofBits, toBits, nanBits, hid, ones, top}
+use lib.Ieee.{Float, nan, inf, fin, Format, binary32, binary64, prec, low, up, down, round, ofFields, ofBits, toBits, hid, ones, top}
 use lib.Ieee.Bits.{nanBits-above}
 use lib.Ieee.Exact.{HasValue, odd-sign}
 use lib.Ieee.Fits.{down-pos}
 use lib.Ieee.Order.{drop, kept}
 use lib.Ieee.Scale.{round-same}
-use Rattle.answers.specs.Table.{pick}
 use Rattle.numbers.specs.Conversions.{nearest, quietNan, topFraction, converted}
 use Rattle.numbers.proofs.Rounding.{bits-of-round}
 

@@ -1,18 +1,17 @@
 -- The whole part of a binary64, arm by arm of `whole_part`, from the value that its fields give.
 -- Assumes nothing.
-use mathlib.Core.Path.{_≡_, refl, sym, ap, ap₂, _∙_, subst}
+use mathlib.Core.Path.{_≡_, refl, sym, ap, _∙_}
 use mathlib.Core.Bool.{Bool, true, false, _&&_, cond, true≢false}
-use mathlib.Core.Logic.{_⊎_, inl, inr}
-use Prim.Native.Nat.{ℕ, zero, suc, _+_, _-_, _*_, _/_, _%_, _^_, _≤_, _<_, zero-le, min}
-use native.Mathlib.Nat.{lt-of-lt-of-le, le-trans, le-of-eq, zero-mul, mul-one, mul-comm, mul-assoc, mul-right-comm, mul-le-mul-right, mul-lt-mul-of-pos-right, le-of-mul-le-mul-right, lt-of-mul-lt-mul-right, div-lt-iff-lt-mul, div-one, div-eq-of-lt, min-eq-left, mul-pos, eq-or-lt-of-le, lt-of-not-le, lt-irrefl, mod-eq-of-lt}
-use native.Mathlib.Decide.{decLe}
+use mathlib.Core.Logic.{inl, inr}
+use Prim.Native.Nat.{ℕ, zero, suc, _+_, _-_, _*_, _/_, _%_, _^_, _≤_, _<_, zero-le}
+use native.Mathlib.Nat.{lt-of-lt-of-le, le-trans, le-of-eq, zero-mul, mul-one, mul-assoc, mul-le-mul-right, mul-lt-mul-of-pos-right, le-of-mul-le-mul-right, lt-of-mul-lt-mul-right, div-lt-iff-lt-mul, div-one, div-eq-of-lt, min-eq-left, mul-pos, eq-or-lt-of-le, lt-irrefl, mod-eq-of-lt}
 use native.Mathlib.Omega.{arith}
 use borrow.Author.Tests.{lt-ltb, le-ltb, lt-leb, ne-eqb}
-use lib.Dec.{T, ltb, eqb, lit<, lit≤}
+use lib.Dec.{eqb, lit<, lit≤}
 use lib.IntN.{pos}
 use lib.Pow.{pow-add, pow-pos, pow-mono, shl-lt}
-use lib.Ieee.{Float, nan, inf, fin, binary64, up, down, ofFields, ofBits, toUnsigned, isNan, nanBits, le, lt}
-use lib.Ieee.Bits.{is-true, nanBits-is, nanBits-above}
+use lib.Ieee.{Float, nan, inf, fin, binary64, up, down, ofFields, ofBits, toUnsigned, le, lt}
+use lib.Ieee.Bits.{is-true}
 use lib.Ieee.Exact.{HasValue}
 use lib.Ieee.Fits.{down-pos}
 use lib.Ieee.Nearest.{div-same}

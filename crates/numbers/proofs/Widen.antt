@@ -3,10 +3,8 @@
 use mathlib.Core.Path.{_≡_, refl, sym, ap, _∙_}
 use mathlib.Core.Bool.{false}
 use Prim.Native.Nat.{ℕ, zero, suc, _+_, _*_, _/_, _%_, _^_, _≤_, _<_, min}
-use native.Mathlib.Nat.{zero-add}
 use native.Mathlib.Omega.{arith}
 use lib.Ieee.{binary32, binary64, round, toBits, nanBits, ofBits}
-use lib.Ieee.Nearest.{closest}
 use Rattle.numbers.specs.Conversions.{nearest, converted}
 use Rattle.numbers.proofs.Closest.{closest-whole}
 use Rattle.numbers.proofs.Rounding.{rounded-bits}

@@ -1,5 +1,5 @@
 -- BER-OID: seven bits a byte, high first, the top bit set on all but the last; value at most 2^32-1.
-use Prim.Native.Nat.{ℕ, suc, _+_, _-_, _/_, _%_, _^_}
+use Prim.Native.Nat.{ℕ, suc, _-_, _/_, _%_, _^_}
 use mathlib.Core.Bool.{_&&_}
 use mathlib.Core.List.{List, [], _∷_, _++_}
 use lib.Dec.{leb, ltb}

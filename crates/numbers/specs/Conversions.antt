@@ -1,7 +1,7 @@
 -- Conversions on bit patterns, by the logic's account of IEEE 754 and document 01's rule for NaN.
 use Prim.Native.Nat.{ℕ, _+_, _*_, _/_, _%_, _^_, _<_}
 use mathlib.Core.Bool.{Bool, false, _&&_, cond}
-use lib.IntN.{ℤ, pos}
+use lib.IntN.{pos}
 use lib.Dec.{leb}
 use lib.Ieee.{Float, nan, inf, fin, Format, binary64, hid, ones, top, up, down, round, ofInt, ofBits, toBits, nanBits, toUnsigned, le, lt}
 use lib.Ieee.Exact.{HasValue}

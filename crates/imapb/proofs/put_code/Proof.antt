@@ -1,8 +1,7 @@
 -- `put_code` meets its contract: the array's front is the code's bytes, and the loop copies them to the front of `out`.
 -- Assumes nothing.
 use mathlib.Core.Path.{_≡_, sym, ap, _∙_}
-use mathlib.Core.List.{List, _++_}
-use Prim.Native.Nat.{ℕ, _-_, _<_, _≤_}
+use Prim.Native.Nat.{ℕ, _-_, _<_}
 use native.Mathlib.Omega.{arith}
 use borrow.Author.Needs.{needs}
 use lib.ListN.{length as lengthOf, drop, replicate, List·getD-append}
