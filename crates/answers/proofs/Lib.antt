@@ -2,3 +2,4 @@ pub mod Cases
 pub mod OneToOne
 pub mod Lent
 pub mod Rules
+pub mod Next

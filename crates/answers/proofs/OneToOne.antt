@@ -8,10 +8,12 @@ use Prim.Native.Nat.{ℕ, _-_}
 use native.Mathlib.Omega.{arith}
 use lib.Dec.{ltb, eqb}
 use Rattle.answers.specs.declared.Refusal.{Refusal}
+use Rattle.answers.specs.declared.Check.{Check}
+use Rattle.answers.specs.declared.Check.the-variants as check
 use Rattle.answers.specs.declared.Written.{Written}
 use Rattle.answers.specs.declared.Written.the-variants.{Done, Refused}
-use Rattle.answers.specs.Table.{Entry, whole, bits64, Answer}
-use Rattle.answers.specs.Listed.{listed, written}
+use Rattle.answers.specs.Table.{Entry, whole, bits64, Answer, passes}
+use Rattle.answers.specs.Listed.{listed, written, checked}
 use Rattle.answers.proofs.Refusal.{parts, as-values, make, eta}
 use Rattle.answers.proofs.Cases.{counts, Case, place, values, same-case, All, every}
 
@@ -75,3 +77,9 @@ written-one (Refused r) (Refused s) e = ap Refused (listed-one r s e)
 pub writer-one : (left : Answer → List ℕ) {a : Answer} (r s : Written) {l m : List ℕ}
     → (written r ≡ a) × (l ≡ left (written r)) → (written s ≡ a) × (m ≡ left (written s)) → (r ≡ s) × (l ≡ m)
 writer-one left r s p q = let e = p .0 ∙ sym (q .0) in (written-one r s e, p .1 ∙ ap left e ∙ sym (q .1))
+
+pub checked-one : (r s : Check) → checked r ≡ checked s → r ≡ s
+checked-one check.Passes check.Passes e = refl
+checked-one check.Passes (check.Refused s) e = absurd (done-not-refused passes s refl e)
+checked-one (check.Refused r) check.Passes e = absurd (done-not-refused passes r refl (sym e))
+checked-one (check.Refused r) (check.Refused s) e = ap check.Refused (listed-one r s e)

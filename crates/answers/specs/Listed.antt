@@ -11,9 +11,11 @@ use Rattle.answers.specs.declared.Refusal.the-variants.{
   TooManyRows,
   NoSuchCell,
 }
+use Rattle.answers.specs.declared.Check.{Check}
+use Rattle.answers.specs.declared.Check.the-variants as check
 use Rattle.answers.specs.declared.Written.{Written}
 use Rattle.answers.specs.declared.Written.the-variants.{Done, Refused}
-use Rattle.answers.specs.Table.{Answer, answer, bits64, wholes}
+use Rattle.answers.specs.Table.{Answer, answer, passes, bits64, wholes}
 
 abbrev pub listed : Refusal → Answer
 listed TruncatedField = answer 1 []
@@ -28,3 +30,7 @@ listed (NoSuchCell i j) = answer 7 (wholes (i ∷ j ∷ []))
 abbrev pub written : Written → Answer
 written (Done n) = answer 0 (wholes (n ∷ []))
 written (Refused r) = listed r
+
+abbrev pub checked : Check → Answer
+checked check.Passes = passes
+checked (check.Refused r) = listed r

@@ -2,6 +2,7 @@
 use Prim.Native.Nat.{ℕ}
 use mathlib.Core.Bool.{Bool, true, false}
 use mathlib.Core.List.{List, [], _∷_}
+use lib.Dec.{eqb}
 
 -- an entry keeps its kind: a whole number (N, a count, a row, a length, a payload), or the bits of a binary64
 pub data Entry : Type 0 where
@@ -23,3 +24,10 @@ wholes (n ∷ ns) = whole n ∷ wholes ns
 abbrev pub pick : {A : Type 0} → Bool → A → A → A
 pick true a b = a
 pick false a b = b
+
+-- a rule that refuses nothing, and the next rule, which counts where the one before does not refuse
+abbrev pub passes : Answer
+passes = answer 0 []
+
+abbrev pub next : Answer → Answer → Answer
+next a b = pick (eqb (a .number) 0) b a

@@ -20,6 +20,12 @@ pub enum Refusal {
     NoSuchCell { i: u64, j: u64 },
 }
 
+// What a rule, or a run of rules, answers.
+pub enum Check {
+    Passes,
+    Refused(Refusal),
+}
+
 // What a writer answers: how many bytes it wrote, or why it wrote none.
 pub enum Written {
     Done(usize),

@@ -1,7 +1,7 @@
 -- BER-OID: what is written is read back, whatever follows; the bytes are the fewest; and what the loops go by.
 -- Assumes nothing.
-use mathlib.Core.Path.{_≡_, refl, sym, _∙_}
-use mathlib.Core.Bool.{_&&_, and-eq-true-iff}
+use mathlib.Core.Path.{_≡_, refl, sym, ap, _∙_}
+use mathlib.Core.Bool.{true, _&&_, and-eq-true-iff}
 use mathlib.Core.List.{List, [], _∷_, _++_}
 use Prim.Native.Nat.{ℕ, zero, suc, _+_, _-_, _/_, _%_, _^_, _≤_, _<_}
 use native.Mathlib.Nat.{le-antisymm, pow-le-pow-right, pow-suc, mod-eq-of-lt, zero-add}
@@ -12,7 +12,7 @@ use lib.ListN.{length, drop, set, getD, length-append}
 use lib.Seq.{drop-cons, append-snoc, take-at}
 use borrow.Author.Needs.{needs}
 use borrow.Author.Tests.{ltb-true, ltb-false, leb-true, le-leb, lt-leb, lt-ltb}
-use Rattle.answers.specs.Table.{answer, wholes}
+use Rattle.answers.specs.Table.{Answer, answer, wholes}
 use Rattle.answers.specs.Lent.{over}
 use Rattle.answers.proofs.Rules.{picked}
 use Rattle.numbers.specs.Digits.{spelt, digits}
@@ -33,18 +33,32 @@ pub read-is : (bytes : List ℕ) {k : ℕ} → suc (continued bytes) ≡ k → k
 unfolding oidRead
 read-is bytes {k} e a b h = rw (e, le-leb k 6 a, le-leb k (length bytes) b, lt-ltb (oidValue k bytes) (2 ^ 32) h)
 
+-- the tests of a read that did
+passed : (bytes : List ℕ) (k : ℕ) → (leb k 6 && leb k (length bytes) && ltb (oidValue k bytes) (2 ^ 32)) ≡ true
+    → (k ≤ 6) × (k ≤ length bytes) × (oidValue k bytes < 2 ^ 32)
+passed bytes k t =
+    let both = and-eq-true-iff (leb k 6 && leb k (length bytes)) _ .0 t in
+    let first = and-eq-true-iff (leb k 6) _ .0 (both .0) in
+    (leb-true k 6 (first .0), leb-true k (length bytes) (first .1), ltb-true (oidValue k bytes) (2 ^ 32) (both .1))
+
 -- no number there
 pub none-is : (bytes : List ℕ) → (suc (continued bytes) ≤ 6 → continued bytes < length bytes → oidValue (suc (continued bytes)) bytes < 2 ^ 32 → ⊥)
     → oidRead bytes ≡ answer 1 []
 unfolding oidRead
 none-is bytes never =
-    let k = suc (continued bytes) in
-    picked (λ a. a ≡ answer 1 []) (leb k 6 && leb k (length bytes) && ltb (oidValue k bytes) (2 ^ 32)) _ _
-    (λ t.
-    let both = and-eq-true-iff (leb k 6 && leb k (length bytes)) _ .0 t in
-    let first = and-eq-true-iff (leb k 6) _ .0 (both .0) in
-    absurd (never (leb-true k 6 (first .0)) (leb-true k (length bytes) (first .1)) (ltb-true (oidValue k bytes) (2 ^ 32) (both .1))))
-    (λ _. refl)
+    picked (λ a. a ≡ answer 1 []) _ _ _ (λ t. let p = passed bytes (suc (continued bytes)) t in absurd (never (p .0) (p .1) (p .2))) (λ _. refl)
+
+-- what a number that was read tells
+pub read-tells : (bytes : List ℕ) {v k : ℕ} → answer 0 (wholes (v ∷ k ∷ [])) ≡ oidRead bytes
+    → (k ≡ suc (continued bytes)) × (v ≡ oidValue k bytes) × (k ≤ length bytes)
+unfolding oidRead
+read-tells bytes {v} {k} =
+    picked (λ a. answer 0 (wholes (v ∷ k ∷ [])) ≡ a → (k ≡ suc (continued bytes)) × (v ≡ oidValue k bytes) × (k ≤ length bytes)) _ _ _
+    (λ t e.
+    let c = ap (λ (a : Answer). a .carries) e in
+    let h : k ≡ suc (continued bytes) = cc in
+    (h, (cc), rw h (passed bytes (suc (continued bytes)) t .1)))
+    (λ _ e. let z = ap (λ (a : Answer). a .number) e in absurd (omega arith))
 
 continued-digits : (j n : ℕ) (l : List ℕ) → continued (digits 128 1 j n ++ l) ≡ j + continued l
 continued-digits zero n l = sym (zero-add (continued l))
