@@ -1,0 +1,67 @@
+-- The rules of a pack's size, as the code tests them.
+-- Assumes nothing.
+use mathlib.Core.Path.{_≡_, sym, ap, _∙_}
+use mathlib.Core.Bool.{true, false, not, _&&_}
+use mathlib.Core.List.{List, [], _∷_}
+use mathlib.Core.Logic.{by-cases}
+use Prim.Native.Nat.{ℕ, zero, suc, _+_, _*_, _/_, _≤_, _<_}
+use native.Mathlib.Decide.{decLt}
+use native.Mathlib.Numerals.{add-one}
+use native.Mathlib.Omega.{arith}
+use lib.Dec.{eqb, leb, ltb}
+use lib.ListN.{length, getD}
+use borrow.Author.Tests.{lt-ltb, le-ltb, le-leb, lt-leb, ne-eqb}
+use Rattle.answers.specs.Table.{answer, wholes, pick, passes}
+use Rattle.answers.proofs.Rules.{picked}
+use Rattle.numbers.specs.BerOid.{oidValue, oidRead}
+use Rattle.numbers.proofs.BerOid.{read-tells}
+use Rattle.layout.specs.declared.control.ParseControl.{ParseControl}
+use Rattle.layout.specs.declared.header.Header.the-variants.{Open, Short}
+use Rattle.layout.specs.Control.{mode1, mode2}
+use Rattle.layout.specs.Triangle.{slotsOf}
+use Rattle.layout.specs.Size.{maxRows, controlAt, matrixSize, sizeRules}
+use Rattle.layout.specs.Listed.{headerOf}
+
+-- a) and b), where a number was read
+module _ (bytes : List ℕ) {v k : ℕ} (e : answer 0 (wholes (v ∷ k ∷ [])) ≡ oidRead bytes) where
+  -- the control starts where the number ends
+  at : controlAt bytes ≡ k
+  at = sym (read-tells bytes e .0)
+
+  value : v ≡ matrixSize bytes
+  value = read-tells bytes e .1 ∙ ap (λ (m : ℕ). oidValue m bytes) (read-tells bytes e .0)
+
+  abbrev first : ℕ
+  first = getD bytes k 0
+
+  pub no-control : length bytes ≤ k → Short ≡ headerOf bytes
+  no-control h =
+      let b =
+      picked (λ (n : ℕ). ltb (length bytes) (k + n) ≡ true) (leb 128 first) 2 1
+      (λ _. lt-ltb (length bytes) (k + 2) (omega arith)) (λ _. lt-ltb (length bytes) (k + 1) (omega arith)) in
+      rw (← e, at, b)
+
+  pub one-byte : k < length bytes → first < 128 → Open v (mode1 first) (k + 1) ≡ headerOf bytes
+  one-byte h m = rw (value, ← e, at, lt-leb 128 first m, le-ltb (length bytes) (k + 1) (omega arith))
+
+  pub no-second : 128 ≤ first → length bytes < k + 2 → Short ≡ headerOf bytes
+  no-second m h = rw (← e, at, le-leb 128 first m, lt-ltb (length bytes) (k + 2) h)
+
+  pub two-bytes : 128 ≤ first → k + 2 ≤ length bytes → Open v (mode2 first (getD bytes (k + 1) 0)) (k + 2) ≡ headerOf bytes
+  two-bytes m h = rw (value, ← e, at, le-leb 128 first m, le-ltb (length bytes) (k + 2) h, add-one)
+
+-- c) two lengths are both 0 where their sum is
+pub some-length : (a b : ℕ) → (a + b ≡ 0 → ⊥) → (eqb a 0 && eqb b 0) ≡ false
+some-length zero b h = ne-eqb b 0 (λ e. h (omega arith))
+some-length (suc a) b h = rw (ne-eqb (suc a) 0 (λ e. omega arith))
+
+-- f) and g), where c) to e) pass
+pub last-rules : (n R : ℕ) (k : ParseControl) → (k .slen + k .clen ≡ 0 → ⊥) → n ≤ maxRows → n * k .slen ≤ R → sizeRules n R k
+    ≡ pick (not (k .cs) && ltb R (slotsOf n * k .clen)) (answer 1 []) (pick (k .cs && ltb (8 * R) (slotsOf n)) (answer 1 []) passes)
+last-rules n R k a b h = rw (some-length (k .slen) (k .clen) a, le-ltb maxRows n b, le-ltb R (n * k .slen) h)
+
+-- g) ceil(M/8) bytes are more than R where M is more than 8R
+pub bit-bytes : (R M : ℕ) → ltb (8 * R) M ≡ ltb R ((M + 7) / 8)
+bit-bytes R M =
+    by-cases (decLt (8 * R) M) (λ h. rw (lt-ltb (8 * R) M h, lt-ltb R ((M + 7) / 8) (omega arith)))
+    (λ h. rw (le-ltb (8 * R) M (omega arith), le-ltb R ((M + 7) / 8) (omega arith)))

@@ -1,0 +1,107 @@
+-- `size::check_matrix_size_fits` meets its contract.
+-- Assumes nothing.
+use Prim.Native.Nat.{_*_, _≤_}
+use native.Mathlib.Nat.{mul-le-mul}
+use native.Mathlib.Omega.{arith}
+use borrow.Author.Needs.{needs}
+use borrow.Author.Tests.{lt-ltb, le-ltb, eq-eqb}
+use Rattle.layout.specs.Size.{maxRows, maxSlots}
+use Rattle.layout.proofs.RowByRow.{few-slots}
+use Rattle.layout.proofs.Rules.{some-length, last-rules, bit-bytes}
+use Rattle.layout.proofs.size.check_matrix_size_fits.Statement.{statement}
+use Rattle.layout.proofs.size.check_matrix_size_fits.Tie as tie
+
+cast-slen : tie.Need-cast-slen
+cast-slen c = search needs
+
+cast-clen : tie.Need-cast-clen
+cast-clen c = search needs
+
+add-if1 : tie.Need-add-if1
+add-if1 c = search needs
+
+returns : tie.Need-returns
+returns c =
+    let k = c .before .before .before .args .control in
+    rw (eq-eqb (k .slen) 0 (omega arith), eq-eqb (k .clen) 0 (omega arith))
+
+returns-2 : tie.Need-returns-2
+returns-2 c =
+    let a = c .before .before .before .before .args in
+    rw (some-length (a .control .slen) (a .control .clen) (c .before .if1 .left), lt-ltb maxRows (a .n) (omega arith))
+
+mul-if3 : tie.Need-mul-if3
+mul-if3 c =
+    let a = c .before .before .before .before .args in
+    omega (arith, mul-le-mul {n₁ = a .n} {m₁ = a .control .slen} {n₂ = 256} {m₂ = 255} (omega arith) (omega arith))
+
+returns-3 : tie.Need-returns-3
+returns-3 c =
+    let a = c .before .before .before .before .before .args in
+    rw (
+      some-length (a .control .slen) (a .control .clen) (c .before .before .if1 .left),
+      le-ltb maxRows (a .n) (omega arith),
+      lt-ltb (a .remaining) (a .n * a .control .slen) (omega arith),
+    )
+
+corr-slots-requires : tie.Need-corr-slots-requires
+corr-slots-requires c κs = search needs
+
+-- the bound that the products need
+few : (c : tie.After-corr-slots) → c .corr-slots .result ≤ maxSlots
+few c = rw (c .corr-slots .ensures) (few-slots (c .before .before .before .before .before .before .args .n) (omega arith))
+
+add-held : tie.Need-add-held
+add-held c = omega (arith, few (c .before))
+
+held-requires : tie.Need-held-requires
+held-requires c κs = search needs
+
+returns-4 : tie.Need-returns-4
+returns-4 c =
+    let s = c .before .before in
+    let a = s .before .before .before .before .before .before .args in
+    rw (
+      last-rules (a .n) (a .remaining) (a .control) (s .before .before .before .if1 .left) (omega arith) (omega arith),
+      c .before .if4 .taken,
+      bit-bytes,
+      ← (s .corr-slots .ensures),
+    ) (c .held .ensures)
+
+mul-held : tie.Need-mul-held
+mul-held c =
+    let s = c .before in
+    let k = s .before .before .before .before .before .before .args .control in
+    omega (arith, few s, mul-le-mul {n₁ = s .corr-slots .result} {m₁ = k .clen} {n₂ = maxSlots} {m₂ = 255} (few s) (omega arith))
+
+held-requires-2 : tie.Need-held-requires-2
+held-requires-2 c κs = search needs
+
+returns-5 : tie.Need-returns-5
+returns-5 c =
+    let s = c .before .before in
+    let a = s .before .before .before .before .before .before .args in
+    rw (
+      last-rules (a .n) (a .remaining) (a .control) (s .before .before .before .if1 .left) (omega arith) (omega arith),
+      c .before .if4 .left,
+      ← (s .corr-slots .ensures),
+    ) (c .held2 .ensures)
+
+pub check-matrix-size-fits-spec : {M : Type 1} → statement M
+check-matrix-size-fits-spec =
+    tie.close
+    (tie.spec
+    cast-slen
+    cast-clen
+    add-if1
+    returns
+    returns-2
+    mul-if3
+    returns-3
+    corr-slots-requires
+    add-held
+    held-requires
+    returns-4
+    mul-held
+    held-requires-2
+    returns-5)

@@ -1,0 +1,4 @@
+pub mod Control
+pub mod Triangle
+pub mod Size
+pub mod Listed

@@ -1,0 +1,47 @@
+//! Elements 1 and 2: the matrix size, and Parse Control behind it.
+use crate::control::ParseControl;
+use crate::control::parse_mode1;
+use crate::control::parse_mode2;
+use numbers::ber_oid::BerOid;
+use numbers::ber_oid::read_ber_oid;
+ghost use mathlib.Core.Path.{_≡_};
+ghost use Rattle.layout.specs.Listed.{headerOf};
+
+// What the first two elements say, and where the third starts; or that they are not whole.
+pub enum Header {
+    Open {
+        n: u32,
+        control: ParseControl,
+        body: usize,
+    },
+    Short,
+}
+
+// Rules a) and b).
+pub fn read_header(bytes: &[u8]) -> Header
+    ensures { λ r. ⌜ r ≡ headerOf (now (bytes .entry)) ⌝ }
+{
+    let oid = read_ber_oid(bytes);
+    let BerOid::Read { value, taken } = oid else {
+        return Header::Short;
+    };
+    if bytes.len() <= taken {
+        return Header::Short;
+    }
+    let first = bytes[taken];
+    if first < 128 {
+        return Header::Open {
+            n: value,
+            control: parse_mode1(first),
+            body: taken + 1,
+        };
+    }
+    if bytes.len() - taken < 2 {
+        return Header::Short;
+    }
+    Header::Open {
+        n: value,
+        control: parse_mode2(first, bytes[taken + 1]),
+        body: taken + 2,
+    }
+}
