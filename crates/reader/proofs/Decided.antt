@@ -1,0 +1,79 @@
+-- Rules h) to k) as the reader decides them: h) and j) by their first element.
+-- Assumes nothing.
+use mathlib.Core.Path.{_≡_, refl, sym}
+use mathlib.Core.Bool.{Bool, true, false, not, _||_, _&&_}
+use mathlib.Core.List.{List, [], _∷_}
+use mathlib.Core.Logic.{inl, inr}
+use Prim.Native.Nat.{ℕ, _-_, _*_, _≤_, _<_}
+use native.Mathlib.Nat.{mul-zero}
+use native.Mathlib.Omega.{arith}
+use borrow.Author.Tests.{lt-ltb, le-ltb, ne-eqb}
+use lib.Dec.{eqb}
+use lib.ListN.{length}
+use Rattle.answers.specs.Table.{Answer, answer, wholes, pick, passes, next}
+use Rattle.answers.specs.Listed.{listed, checked}
+use Rattle.answers.specs.declared.Check.{Check}
+use Rattle.answers.specs.declared.Check.the-variants.{Passes, Refused}
+use Rattle.answers.specs.declared.Refusal.{Refusal}
+use Rattle.answers.proofs.OneToOne.{refused-not-done, done-not-refused}
+use Rattle.imapb.specs.Tables.{supported}
+use Rattle.layout.specs.declared.control.ParseControl.{ParseControl}
+use Rattle.reader.specs.declared.read.Head.{Head}
+use Rattle.reader.specs.Elements.{deviationsAt, deviationCount, codesAt, presentCount, isIeee, ieee, part, codeBits}
+use Rattle.reader.specs.Listed.{turnsRule}
+use Rattle.reader.specs.Numbers.{deviationNumber, correlationNumber}
+use Rattle.reader.specs.Rules.{deviationFormat, codeFormat, codesRule, ruleH, ruleJ}
+use Rattle.reader.proofs.InTurn.{Format, in-turn}
+
+-- a check that refuses ends an order of rules, and one that passes goes on to the next
+module _ {k : Check} (a b : Answer) (e : checked k ≡ a) where
+  pub stops : {r : Refusal} → k ≡ Refused r → checked k ≡ next a b
+  stops {r} h = let f : listed r ≡ a = rw h at e in rw (h, ← f, refused-not-done r)
+
+  pub goes : k ≡ Passes → next a b ≡ b
+  goes h = let f : passes ≡ a = rw h at e in rw (← f)
+
+pub never-refused : {k : Check} {r : Refusal} → checked k ≡ passes → k ≡ Refused r → ⊥
+never-refused {r = r} e h = done-not-refused passes r refl (sym (rw h at e))
+
+-- ---- rule i), as the reader tests it
+module _ (c : ParseControl) (present left : ℕ) where
+  pub codes-all : c .cs ≡ false → passes ≡ codesRule c present left
+  codes-all e = rw e
+
+  pub codes-short : c .cs ≡ true → left < present * c .clen → answer 1 [] ≡ codesRule c present left
+  codes-short e h = rw (e, ne-eqb (c .clen) 0 (λ z. omega (arith, rw (z, mul-zero present) at h)), lt-ltb left (present * c .clen) h)
+
+  pub codes-there : c .cs ≡ true → present * c .clen ≤ left → passes ≡ codesRule c present left
+  codes-there e h = rw (e, le-ltb left (present * c .clen) h) (go (not (eqb (c .clen) 0)))
+    where
+      go : (b : Bool) → passes ≡ pick (b && false) (answer 1 []) passes
+      go true = refl
+      go false = refl
+
+-- a format is refused, or passes
+either : (b : Bool) (x y : Answer) → Format x → Format y → Format (pick b x y)
+either true x y p q = p
+either false x y p q = q
+
+pub deviation-format : (c : ParseControl) → Format (deviationFormat c)
+deviation-format c = either (c .sf || not (isIeee (c .slen))) (answer 2 (wholes (0 ∷ c .slen ∷ []))) passes (inr refl) (inl refl)
+
+pub code-format : (c : ParseControl) → Format (codeFormat c)
+code-format c =
+    either (c .cf) (pick (supported (c .clen)) passes (answer 4 (wholes (c .clen ∷ [])))) (pick (isIeee (c .clen)) passes (answer 2 (wholes (0 ∷ c .clen ∷ []))))
+    (either (supported (c .clen)) passes (answer 4 (wholes (c .clen ∷ []))) (inl refl) (inr refl))
+    (either (isIeee (c .clen)) passes (answer 2 (wholes (0 ∷ c .clen ∷ []))) (inl refl) (inr refl))
+
+module _ (bytes : List ℕ) (h : Head) where
+  pub by-first-deviation : ruleH bytes h
+      ≡ turnsRule (deviationNumber bytes (deviationsAt h) (h .control)) (deviationCount h) (h .control .slen) (length bytes - deviationsAt h)
+  by-first-deviation =
+      in-turn bytes (deviationsAt h) (h .control .slen) (deviationFormat (h .control)) (deviation-format (h .control)) (deviationCount h)
+      (ieee (h .control .slen) (part bytes (deviationsAt h) (h .control .slen)))
+
+  pub by-first-code : ruleJ bytes h
+      ≡ turnsRule (correlationNumber bytes (codesAt h) (h .control)) (presentCount bytes h) (h .control .clen) (length bytes - codesAt h)
+  by-first-code =
+      in-turn bytes (codesAt h) (h .control .clen) (codeFormat (h .control)) (code-format (h .control)) (presentCount bytes h)
+      (codeBits (h .control) (part bytes (codesAt h) (h .control .clen)))

@@ -1,0 +1,110 @@
+-- The loops that fill lent memory: what a turn reads is there, so that no number is refused, and what the turns store.
+-- Assumes nothing.
+use mathlib.Core.Path.{_≡_, refl, sym, ap, _∙_}
+use mathlib.Core.Bool.{Bool, true, false}
+use mathlib.Core.List.{List}
+use Prim.Native.Nat.{ℕ, _+_, _-_, _*_, _≤_, _<_}
+use native.Mathlib.Nat.{zero-mul, suc-mul, add-mul, mul-comm, mul-le-mul-right}
+use native.Mathlib.Numerals.{add-one}
+use native.Mathlib.Omega.{arith}
+use borrow.Author.Tests.{le-ltb}
+use lib.ListN.{length, set}
+use Rattle.answers.specs.declared.Refusal.{Refusal}
+use Rattle.answers.specs.Lent.{over, tab}
+use Rattle.answers.specs.Table.{Answer, pick, passes}
+use Rattle.answers.proofs.Lent.{length-tab, getD-tab, Front, front-none, front-more, front-done}
+use Rattle.layout.specs.declared.control.ParseControl.{ParseControl}
+use Rattle.reader.specs.declared.number.Number.{Number}
+use Rattle.reader.specs.declared.number.Number.the-variants.{Bits, Refused}
+use Rattle.reader.specs.Elements.{part, codeBits, presentIn, presentBefore, deviationIn, correlationIn, presenceIn}
+use Rattle.reader.specs.Fill.{SlotsHeld}
+use Rattle.reader.specs.Numbers.{Read, bits, numberListed, element, deviationNumber, slotNumber}
+use Rattle.reader.specs.Rules.{deviationFormat}
+use Rattle.reader.proofs.Vector.{present-more, present-le, present-grows}
+
+-- ---- a loop that stores what f gives of 0 to n-1
+module _ (n : ℕ) (f : ℕ → ℕ) {l₀ : List ℕ} where
+  pub tab-none : n ≤ length l₀ → Front (tab n f) l₀ 0 l₀
+  tab-none h = front-none (rw (length-tab n f) h)
+
+  module _ {i : ℕ} {l : List ℕ} (p : Front (tab n f) l₀ i l) where
+    pub tab-room : i < n → i < length l
+    tab-room h = omega (arith, p .room, p .long, length-tab n f)
+
+    pub tab-more : {x : ℕ} → i < n → x ≡ f i → Front (tab n f) l₀ (i + 1) (set l i x)
+    tab-more h e = front-more p (rw (length-tab n f) h) (e ∙ sym (getD-tab n f i h))
+
+    pub tab-done : n ≤ i → l ≡ over (tab n f) l₀
+    tab-done h = front-done p (omega (arith, p .within, length-tab n f))
+
+-- ---- what a turn has: the number that it reads, and where it moves on to
+pub record Turn (bytes : List ℕ) (number : Read) (value moved next : ℕ) : Type 0 where
+  pub read : number ≡ bits value
+  pub on : moved ≡ next
+  pub within : moved ≤ length bytes
+
+-- an answer that lists so holds that value, and no refusal
+module _ {bytes : List ℕ} {number : Read} {value moved next : ℕ} (t : Turn bytes number value moved next) {a : Number} (e : numberListed a ≡ number) where
+  pub turn-value : {x : ℕ} → a ≡ Bits x → x ≡ value
+  turn-value h = let l = ap numberListed h in let b = t .read in cc
+
+  pub turn-never : {r : Refusal} → a ≡ Refused r → ⊥
+  turn-never h = let l = ap numberListed h in let b = t .read in let z : _≡_ {A = ℕ} 0 1 = cc in omega arith
+
+-- an element that ends within the bytes, in a format that is read
+element-held : (bytes : List ℕ) (at size value : ℕ) {format : Answer} → at + size ≤ length bytes → format ≡ passes
+    → element bytes at size format value ≡ bits value
+element-held bytes at size value h f = rw (le-ltb (length bytes - at) size (omega arith), f)
+
+ends : {i n : ℕ} (at size : ℕ) → i < n → at + i * size + size ≤ at + n * size
+ends {i} at size h = omega (arith, suc-mul i size, mul-le-mul-right size h)
+
+module _ (bytes : List ℕ) (at : ℕ) (c : ParseControl) where
+  abbrev pub DeviationTurn : ℕ → ℕ → Type 0
+  DeviationTurn i next = Turn bytes (deviationNumber bytes next c) (deviationIn bytes at c i) (next + c .slen) (at + (i + 1) * c .slen)
+
+  pub deviation-turn : {count i next : ℕ} → at + count * c .slen ≤ length bytes → (0 < count → deviationFormat c ≡ passes)
+      → i < count → next ≡ at + i * c .slen → DeviationTurn i next
+  deviation-turn {i = i} h f l e =
+      let w : at + i * c .slen + c .slen ≤ length bytes = omega (arith, ends at (c .slen) l) in
+      rw (e, add-one)
+      (record {
+        read = element-held bytes (at + i * c .slen) (c .slen) (deviationIn bytes at c i) w (f (omega arith));
+        on = omega (arith, suc-mul i (c .slen));
+        within = w;
+      })
+
+module _ (bytes : List ℕ) (vector codes : ℕ) (c : ParseControl) where
+  -- where slot k has its code, if it is present
+  abbrev pub codeAt : ℕ → ℕ
+  codeAt k = codes + presentBefore bytes vector c k * c .clen
+
+  pub first-code : codes ≡ codeAt 0
+  first-code = let z : presentBefore bytes vector c 0 ≡ 0 = omega (arith, present-le bytes vector c 0) in rw z (omega (arith, zero-mul (c .clen)))
+
+  next-code : (k : ℕ) → codeAt k + c .clen * presenceIn bytes vector c k ≡ codeAt (k + 1)
+  next-code k =
+      let b = presentBefore bytes vector c k in
+      let p = presenceIn bytes vector c k in
+      rw (add-one, present-more bytes vector c k) (omega (arith, add-mul b p (c .clen), mul-comm p (c .clen)))
+
+  abbrev pub SlotTurn : ℕ → ℕ → ℕ → Type 0
+  SlotTurn k next p = Turn bytes (slotNumber bytes next c p) (correlationIn bytes vector codes c k) (next + c .clen * p) (codeAt (k + 1))
+
+  module _ {slots k : ℕ} (h : SlotsHeld bytes vector codes c slots) (l : k < slots) where
+    slot-held : (b : Bool) → presentIn bytes vector c k ≡ b
+        → slotNumber bytes (codeAt k) c (pick b 1 0) ≡ bits (pick b (codeBits c (part bytes (codeAt k) (c .clen))) 0)
+    slot-held false e = refl
+    slot-held true e =
+        let more : presentBefore bytes vector c k < presentBefore bytes vector c slots =
+        omega (arith, rw e at (present-more bytes vector c k), present-grows bytes vector c l) in
+        element-held bytes (codeAt k) (c .clen) (codeBits c (part bytes (codeAt k) (c .clen))) (omega (arith, h .whole, ends codes (c .clen) more)) (h .format (omega arith))
+
+    pub slot-turn : {next p : ℕ} → next ≡ codeAt k → p ≡ presenceIn bytes vector c k → SlotTurn k next p
+    slot-turn e q =
+        rw (e, q, next-code k)
+        (record {
+          read = slot-held (presentIn bytes vector c k) refl;
+          on = refl;
+          within = rw add-one (omega (arith, h .whole, mul-le-mul-right (c .clen) (present-grows bytes vector c l)));
+        })

@@ -1,0 +1,72 @@
+-- Rules h) and j) by their first element: the others can only lack bytes.
+-- Assumes nothing.
+use mathlib.Core.Path.{_≡_, refl}
+use mathlib.Core.Bool.{false}
+use mathlib.Core.List.{List, []}
+use mathlib.Core.Logic.{_⊎_, inl, inr}
+use Prim.Native.Nat.{ℕ, zero, suc, _+_, _-_, _*_, _≤_, _<_}
+use native.Mathlib.Nat.{suc-mul, zero-mul, lt-of-not-le}
+use native.Mathlib.Decide.{decLe}
+use native.Mathlib.Omega.{arith}
+use borrow.Author.Tests.{lt-ltb, le-ltb}
+use lib.Dec.{eqb, ltb, eqb·suc-zero}
+use lib.ListN.{length}
+use Rattle.answers.specs.Table.{Answer, answer, pick, passes, next}
+use Rattle.reader.specs.Listed.{refusalOf, turnsRule}
+use Rattle.reader.specs.Numbers.{bits, refused, element}
+use Rattle.reader.specs.Rules.{inTurn}
+
+-- a format is refused, or passes
+abbrev pub Format : Answer → Type 0
+Format a = (a ≡ passes) ⊎ (eqb (a .number) 0 ≡ false)
+
+module _ (bytes : List ℕ) (at size : ℕ) where
+  -- where the first is short
+  short-first : (format : Answer) (n : ℕ) → length bytes - at < size → inTurn bytes at size format (suc n) ≡ answer 1 []
+  short-first format zero h =
+      let e : length bytes - (at + 0 * size) < size = omega (arith, h, zero-mul size) in
+      rw (lt-ltb (length bytes - (at + 0 * size)) size e)
+  short-first format (suc n) h = rw (short-first format n h)
+
+  -- where the format is refused
+  bad-format : (format : Answer) (n : ℕ) → size ≤ length bytes - at → eqb (format .number) 0 ≡ false → inTurn bytes at size format (suc n) ≡ format
+  bad-format format zero h e =
+      let k : size ≤ length bytes - (at + 0 * size) = omega (arith, h, zero-mul size) in
+      rw (le-ltb (length bytes - (at + 0 * size)) size k)
+  bad-format format (suc n) h e = rw (bad-format format n h e, e)
+
+  -- where only the bytes can be short
+  all-held : (n : ℕ) → n * size ≤ length bytes - at → inTurn bytes at size passes n ≡ passes
+  all-held zero h = refl
+  all-held (suc n) h =
+      let e = suc-mul n size in
+      rw (all-held n (omega arith), le-ltb (length bytes - (at + n * size)) size (omega arith))
+
+  short-later : (n : ℕ) → length bytes - at < n * size → inTurn bytes at size passes n ≡ answer 1 []
+  short-later zero h = absurd (omega (arith, h, zero-mul size))
+  short-later (suc n) h =
+      let e = suc-mul n size in
+      elim (decLe (n * size) (length bytes - at)) [
+        | yes k ↦ rw (all-held n k, lt-ltb (length bytes - (at + n * size)) size (omega arith))
+        | no k ↦ rw (short-later n (lt-of-not-le k))
+      ]
+
+  -- the law, for both rules
+  pub in-turn : (format : Answer) → Format format → (n value : ℕ)
+      → inTurn bytes at size format n ≡ turnsRule (element bytes at size format value) n size (length bytes - at)
+  in-turn format f zero value = refl
+  in-turn format f (suc n) value =
+      elim (decLe size (length bytes - at)) [
+        | no h ↦ let k = lt-of-not-le h in rw (short-first format n k, eqb·suc-zero n, lt-ltb (length bytes - at) size k)
+        | yes h ↦ rw (eqb·suc-zero n, le-ltb (length bytes - at) size h) (go h f)
+      ]
+    where
+      go : size ≤ length bytes - at → Format format → inTurn bytes at size format (suc n)
+          ≡ next (refusalOf (pick (eqb (format .number) 0) (bits value) (refused format))) (pick (ltb (length bytes - at) (suc n * size)) (answer 1 []) passes)
+      go h (inr e) = rw (bad-format format n h e, e, e)
+      go h (inl e) =
+          rw e
+          (elim (decLe (suc n * size) (length bytes - at)) [
+            | yes k ↦ rw (all-held (suc n) k, le-ltb (length bytes - at) (suc n * size) k)
+            | no k ↦ let l = lt-of-not-le k in rw (short-later (suc n) l, lt-ltb (length bytes - at) (suc n * size) l)
+          ])

@@ -1,0 +1,120 @@
+-- `fill::fill_deviations` meets its contract: each turn reads the next deviation, which is there, and stores it.
+-- Assumes nothing.
+use mathlib.Core.Path.{_≡_, refl}
+use Prim.Native.Nat.{ℕ, _+_, _-_, _*_}
+use native.Mathlib.Nat.{zero-mul}
+use native.Mathlib.Omega.{arith}
+use borrow.Author.Needs.{needs}
+use Rattle.answers.specs.Lent.{tab}
+use Rattle.answers.proofs.Lent.{Front}
+use Rattle.reader.specs.Elements.{deviationIn}
+use Rattle.reader.proofs.Filled.{tab-none, tab-room, tab-more, tab-done, turn-value, turn-never, DeviationTurn, deviation-turn}
+use Rattle.reader.proofs.fill.fill_deviations.Statement.{statement}
+use Rattle.reader.proofs.fill.fill_deviations.Tie as tie
+
+abbrev Inv-loop : tie.InvT-loop
+Inv-loop bytes at control count out₀ size next₀ i₀ out next i =
+    Front (tab count (deviationIn bytes at control)) out₀ i out × (next ≡ at + i * control .slen)
+
+abbrev μ-loop : tie.MeasureT-loop
+μ-loop bytes at control count out₀ size next₀ i₀ out next i = count - i
+
+abbrev start : tie.At-loop Inv-loop μ-loop → tie.Start Inv-loop μ-loop
+start c = c .before .before .before .before
+
+-- deviation i of the arguments
+abbrev deviation : tie.Start Inv-loop μ-loop → ℕ → ℕ
+deviation c = deviationIn (c .args .bytes .now) (c .args .at) (c .args .control)
+
+cast-size : tie.Need-cast-size Inv-loop μ-loop
+cast-size c = omega arith
+
+loop-holds : tie.Need-loop-holds Inv-loop μ-loop
+loop-holds c =
+    let s = c .before .before .before in
+    (tab-none (s .args .count) (deviation s) (s .pre .2), omega (arith, zero-mul (s .args .control .slen)))
+
+deviation-at-requires : tie.Need-deviation-at-requires Inv-loop μ-loop
+deviation-at-requires c κs = search needs
+
+turn : (c : tie.In-loop Inv-loop μ-loop)
+    → let a = start (c .before) .args in
+    DeviationTurn (a .bytes .now) (a .at) (a .control) (c .before .loop .i) (c .before .loop .next)
+turn c =
+    let s = start (c .before) in
+    deviation-turn (s .args .bytes .now) (s .args .at) (s .args .control) (s .pre .0) (s .pre .1) (c .loop-test .taken) (c .before .loop .inv .1)
+
+enum-known-number : tie.Need-enum-known-number Inv-loop μ-loop
+enum-known-number c = search needs
+
+enum-told : tie.Need-enum-told Inv-loop μ-loop
+enum-told c = search needs
+
+refused-number-requires : tie.Need-refused-number-requires Inv-loop μ-loop
+refused-number-requires c κs = search needs
+
+same-length : tie.Need-same-length Inv-loop μ-loop
+same-length c = c .before .before .before .before .before .loop .inv .0 .long
+
+returns : tie.Need-returns Inv-loop μ-loop
+returns c =
+    let d = c .before .before .before in
+    absurd (turn-never (turn (d .before)) (d .deviation-at .ensures) (c .before .enum-told .given .1))
+
+mul-out : tie.Need-mul-out Inv-loop μ-loop
+mul-out c = omega arith
+
+slice-write-out : tie.Need-slice-write-out Inv-loop μ-loop
+slice-write-out c =
+    let w = c .before .before .before .before in
+    let s = start (w .before) in
+    tab-room (s .args .count) (deviation s) (w .before .loop .inv .0) (w .loop-test .taken)
+
+add-next : tie.Need-add-next Inv-loop μ-loop
+add-next c = omega (arith, turn (c .before .before .before .before))
+
+add-i : tie.Need-add-i Inv-loop μ-loop
+add-i c = omega arith
+
+loop-less : tie.Need-loop-less Inv-loop μ-loop
+loop-less c = omega arith
+
+loop-again : tie.Need-loop-again Inv-loop μ-loop
+loop-again c =
+    let d = c .before .before .before in
+    let w = d .before in
+    let s = start (w .before) in
+    let l = w .before .loop in
+    let x = turn-value (turn w) (d .deviation-at .ensures) (c .before .number .given .1) in
+    (tab-more (s .args .count) (deviation s) (l .inv .0) (w .loop-test .taken) x, turn w .on)
+
+same-length-2 : tie.Need-same-length-2 Inv-loop μ-loop
+same-length-2 c = c .before .loop .inv .0 .long
+
+returns-2 : tie.Need-returns-2 Inv-loop μ-loop
+returns-2 c =
+    let s = start (c .before) in
+    (refl, tab-done (s .args .count) (deviation s) (c .before .loop .inv .0) (c .loop-test .left))
+
+pub fill-deviations-spec : {M : Type 1} → statement M
+fill-deviations-spec =
+    tie.close
+    (tie.spec
+    Inv-loop
+    μ-loop
+    cast-size
+    loop-holds
+    deviation-at-requires
+    enum-known-number
+    enum-told
+    refused-number-requires
+    same-length
+    returns
+    mul-out
+    slice-write-out
+    add-next
+    add-i
+    loop-less
+    loop-again
+    same-length-2
+    returns-2)

@@ -1,0 +1,157 @@
+-- `fill::fill_slots` meets its contract: each turn stores whether the slot is present, and its number, whose code is there if it is.
+-- Assumes nothing.
+use mathlib.Core.Path.{_≡_, refl}
+use Prim.Native.Nat.{ℕ, _-_}
+use native.Mathlib.Omega.{arith}
+use borrow.Author.Needs.{needs}
+use Rattle.answers.specs.Lent.{tab}
+use Rattle.answers.proofs.Lent.{Front}
+use Rattle.reader.specs.Elements.{correlationIn, presenceIn}
+use Rattle.reader.proofs.Filled.{tab-none, tab-room, tab-more, tab-done, turn-value, turn-never, codeAt, first-code, SlotTurn, slot-turn}
+use Rattle.reader.proofs.fill.fill_slots.Statement.{statement}
+use Rattle.reader.proofs.fill.fill_slots.Tie as tie
+
+abbrev Inv-loop : tie.InvT-loop
+Inv-loop bytes vector codes control slots correlations₀ presence₀ size next₀ k₀ correlations presence next k =
+    Front (tab slots (correlationIn bytes vector codes control)) correlations₀ k correlations
+    × Front (tab slots (presenceIn bytes vector control)) presence₀ k presence
+    × (next ≡ codeAt bytes vector codes control k)
+
+abbrev μ-loop : tie.MeasureT-loop
+μ-loop bytes vector codes control slots correlations₀ presence₀ size next₀ k₀ correlations presence next k =
+    slots - k
+
+abbrev start : tie.At-loop Inv-loop μ-loop → tie.Start Inv-loop μ-loop
+start c = c .before .before .before .before .before
+
+-- slot k of the arguments
+abbrev correlation : tie.Start Inv-loop μ-loop → ℕ → ℕ
+correlation c = correlationIn (c .args .bytes .now) (c .args .vector) (c .args .codes) (c .args .control)
+
+abbrev presence : tie.Start Inv-loop μ-loop → ℕ → ℕ
+presence c = presenceIn (c .args .bytes .now) (c .args .vector) (c .args .control)
+
+cast-size : tie.Need-cast-size Inv-loop μ-loop
+cast-size c = omega arith
+
+loop-holds : tie.Need-loop-holds Inv-loop μ-loop
+loop-holds c =
+    let s = c .before .before .before .before in
+    let a = s .args in
+    (tab-none (a .slots) (correlation s) (s .pre .1), tab-none (a .slots) (presence s) (s .pre .2), first-code (a .bytes .now) (a .vector) (a .codes) (a .control))
+
+presence-of-requires : tie.Need-presence-of-requires Inv-loop μ-loop
+presence-of-requires c κs = search needs
+
+slot-at-requires : tie.Need-slot-at-requires Inv-loop μ-loop
+slot-at-requires c κs = search needs
+
+turn : (c : tie.After-presence-of Inv-loop μ-loop)
+    → let l = c .before .before .loop in
+    let a = start (c .before .before) .args in
+    SlotTurn (a .bytes .now) (a .vector) (a .codes) (a .control) (l .k) (l .next) (c .presence-of .result)
+turn c =
+    let s = start (c .before .before) in
+    let a = s .args in
+    slot-turn (a .bytes .now) (a .vector) (a .codes) (a .control) (s .pre .0) (c .before .loop-test .taken) (c .before .before .loop .inv .2) (c .presence-of .ensures)
+
+enum-known-number : tie.Need-enum-known-number Inv-loop μ-loop
+enum-known-number c = search needs
+
+enum-told : tie.Need-enum-told Inv-loop μ-loop
+enum-told c = search needs
+
+refused-number-requires : tie.Need-refused-number-requires Inv-loop μ-loop
+refused-number-requires c κs = search needs
+
+same-length : tie.Need-same-length Inv-loop μ-loop
+same-length c = c .before .before .before .before .before .before .loop .inv .0 .long
+
+same-length-2 : tie.Need-same-length-2 Inv-loop μ-loop
+same-length-2 c = c .before .before .before .before .before .before .loop .inv .1 .long
+
+returns : tie.Need-returns Inv-loop μ-loop
+returns c =
+    let d = c .before .before .before in
+    absurd (turn-never (turn (d .before)) (d .slot-at .ensures) (c .before .enum-told .given .1))
+
+mul-correlations : tie.Need-mul-correlations Inv-loop μ-loop
+mul-correlations c = omega arith
+
+slice-write-correlations : tie.Need-slice-write-correlations Inv-loop μ-loop
+slice-write-correlations c =
+    let w = c .before .before .before .before .before in
+    let s = start (w .before) in
+    tab-room (s .args .slots) (correlation s) (w .before .loop .inv .0) (w .loop-test .taken)
+
+slice-write-presence : tie.Need-slice-write-presence Inv-loop μ-loop
+slice-write-presence c =
+    let w = c .before .before .before .before .before in
+    let s = start (w .before) in
+    tab-room (s .args .slots) (presence s) (w .before .loop .inv .1) (w .loop-test .taken)
+
+cast-next : tie.Need-cast-next Inv-loop μ-loop
+cast-next c = omega arith
+
+mul-next : tie.Need-mul-next Inv-loop μ-loop
+mul-next c = omega (arith, turn (c .before .before .before .before))
+
+add-next : tie.Need-add-next Inv-loop μ-loop
+add-next c = omega (arith, turn (c .before .before .before .before))
+
+add-k : tie.Need-add-k Inv-loop μ-loop
+add-k c = omega arith
+
+loop-less : tie.Need-loop-less Inv-loop μ-loop
+loop-less c = omega arith
+
+loop-again : tie.Need-loop-again Inv-loop μ-loop
+loop-again c =
+    let d = c .before .before .before in
+    let p = d .before in
+    let w = p .before in
+    let s = start (w .before) in
+    let l = w .before .loop in
+    let x = turn-value (turn p) (d .slot-at .ensures) (c .before .number .given .1) in
+    (tab-more (s .args .slots) (correlation s) (l .inv .0) (w .loop-test .taken) x, tab-more (s .args .slots) (presence s) (l .inv .1) (w .loop-test .taken) (p .presence-of .ensures), turn p .on)
+
+same-length-3 : tie.Need-same-length-3 Inv-loop μ-loop
+same-length-3 c = c .before .loop .inv .0 .long
+
+same-length-4 : tie.Need-same-length-4 Inv-loop μ-loop
+same-length-4 c = c .before .loop .inv .1 .long
+
+returns-2 : tie.Need-returns-2 Inv-loop μ-loop
+returns-2 c =
+    let s = start (c .before) in
+    let i = c .before .loop .inv in
+    (refl, tab-done (s .args .slots) (correlation s) (i .0) (c .loop-test .left), tab-done (s .args .slots) (presence s) (i .1) (c .loop-test .left))
+
+pub fill-slots-spec : {M : Type 1} → statement M
+fill-slots-spec =
+    tie.close
+    (tie.spec
+    Inv-loop
+    μ-loop
+    cast-size
+    loop-holds
+    presence-of-requires
+    slot-at-requires
+    enum-known-number
+    enum-told
+    refused-number-requires
+    same-length
+    same-length-2
+    returns
+    mul-correlations
+    slice-write-correlations
+    slice-write-presence
+    cast-next
+    mul-next
+    add-next
+    add-k
+    loop-less
+    loop-again
+    same-length-3
+    same-length-4
+    returns-2)

@@ -1,0 +1,33 @@
+-- `present::presence_of` meets its contract.
+-- Assumes nothing.
+use borrow.Author.Needs.{needs}
+use borrow.Author.Tests.{ne-eqb}
+use Rattle.reader.proofs.Vector.{bit-is}
+use Rattle.reader.proofs.present.presence_of.Statement.{statement}
+use Rattle.reader.proofs.present.presence_of.Tie as tie
+
+returns : tie.Need-returns
+returns c = rw (c .if1 .taken)
+
+byte-at-requires : tie.Need-byte-at-requires
+byte-at-requires c κs = search needs
+
+sub-result : tie.Need-sub-result
+sub-result c = search needs
+
+cast-result : tie.Need-cast-result
+cast-result c = search needs
+
+shr-result : tie.Need-shr-result
+shr-result c = search needs
+
+returns-2 : tie.Need-returns-2
+returns-2 c = rw (ne-eqb _ 0 (c .before .before .if1 .left), c .before .if2 .taken, bit-is, c .byte-at .ensures)
+
+returns-3 : tie.Need-returns-3
+returns-3 c = rw (ne-eqb _ 0 (c .before .if1 .left), c .if2 .left)
+
+pub presence-of-spec : {M : Type 1} → statement M
+presence-of-spec =
+    tie.close
+    (tie.spec returns byte-at-requires sub-result cast-result shr-result returns-2 returns-3)

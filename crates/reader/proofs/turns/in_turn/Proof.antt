@@ -1,0 +1,44 @@
+-- `turns::in_turn` meets its contract.
+-- Assumes nothing.
+use borrow.Author.Needs.{needs}
+use borrow.Author.Tests.{ne-eqb, lt-ltb, le-ltb}
+use Rattle.answers.proofs.OneToOne.{refused-not-done}
+use Rattle.reader.proofs.turns.in_turn.Statement.{statement}
+use Rattle.reader.proofs.turns.in_turn.Tie as tie
+
+returns : tie.Need-returns
+returns c = rw (c .if1 .taken)
+
+enum-told : tie.Need-enum-told
+enum-told c = search needs
+
+enum-told-2 : tie.Need-enum-told-2
+enum-told-2 c = search needs
+
+refused-number-requires : tie.Need-refused-number-requires
+refused-number-requires c κs = search needs
+
+returns-2 : tie.Need-returns-2
+returns-2 c = rw (ne-eqb _ 0 (c .before .before .before .if1 .left), c .refused-number .ensures, c .before .enum-told2 .given .1, refused-not-done)
+
+mul-if2 : tie.Need-mul-if2
+mul-if2 c = search needs
+
+returns-3 : tie.Need-returns-3
+returns-3 c = rw (ne-eqb _ 0 (c .before .before .before .if1 .left), c .before .enum-told .given .1, lt-ltb _ _ (c .if2 .taken))
+
+returns-4 : tie.Need-returns-4
+returns-4 c = rw (ne-eqb _ 0 (c .before .before .before .if1 .left), c .before .enum-told .given .1, le-ltb _ _ (c .if2 .left))
+
+pub in-turn-spec : {M : Type 1} → statement M
+in-turn-spec =
+    tie.close
+    (tie.spec
+    returns
+    enum-told
+    enum-told-2
+    refused-number-requires
+    returns-2
+    mul-if2
+    returns-3
+    returns-4)

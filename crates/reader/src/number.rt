@@ -1,0 +1,127 @@
+//! One number of a pack, a deviation or a slot's correlation, as binary64 bits.
+use answers::Refusal;
+use imapb::decode::DecodedImapb;
+use imapb::decode::ImapbRead;
+use imapb::decode::decode_imapb;
+use layout::control::ParseControl;
+use numbers::conversions::binary32_to_binary64;
+use numbers::words::read_be;
+ghost use mathlib.Core.Path.{_≡_};
+ghost use Prim.Native.Nat.{_-_};
+ghost use lib.ListN.{length};
+ghost use Rattle.reader.specs.Elements.{valueBits};
+ghost use Rattle.reader.specs.Numbers.{numberListed, ieeeNumber, deviationNumber, refusedCode, correlationNumber, slotNumber};
+
+pub enum Number {
+    Bits(u64),
+    Refused(Refusal),
+}
+
+// How many bytes there are from a place on.
+pub fn left(bytes: &[u8], at: usize) -> usize
+    ensures { λ r. ⌜ r ≡ length (now (bytes .entry)) - at ⌝ }
+{
+    if at < bytes.len() {
+        bytes.len() - at
+    } else {
+        0
+    }
+}
+
+// An IEEE number: binary32 for 4 bytes, binary64 for 8.
+pub fn ieee_at(bytes: &[u8], at: usize, size: usize) -> Number
+    ensures { λ r. ⌜ numberListed r ≡ ieeeNumber (now (bytes .entry)) at size ⌝ }
+{
+    if left(bytes, at) < size {
+        return Number::Refused(Refusal::TruncatedField);
+    }
+    if size == 4 {
+        let end = at + 4;
+        return Number::Bits(binary32_to_binary64(read_be(&bytes[at..end]) as u32));
+    }
+    if size == 8 {
+        let end = at + 8;
+        return Number::Bits(read_be(&bytes[at..end]));
+    }
+    Number::Refused(Refusal::InvalidLength {
+        expected: 0,
+        got: size,
+    })
+}
+
+// Rule h) of one deviation.
+pub fn deviation_at(bytes: &[u8], at: usize, control: ParseControl) -> Number
+    ensures { λ r. ⌜ numberListed r ≡ deviationNumber (now (bytes .entry)) at control ⌝ }
+{
+    let slen = control.slen as usize;
+    // the range of a mapped deviation is in no pack
+    if control.sf {
+        if left(bytes, at) < slen {
+            return Number::Refused(Refusal::TruncatedField);
+        }
+        return Number::Refused(Refusal::InvalidLength {
+            expected: 0,
+            got: slen,
+        });
+    }
+    ieee_at(bytes, at, slen)
+}
+
+// What a code reads as: a value, or 0.0 for everything else.
+fn value_bits(decoded: DecodedImapb) -> u64
+    ensures { λ r. ⌜ r ≡ valueBits decoded ⌝ }
+{
+    let DecodedImapb::Value(x) = decoded else {
+        return 0;
+    };
+    // a NaN has no bits of its own
+    if x != x {
+        0x7ff8_0000_0000_0000
+    } else {
+        f64::to_bits(x)
+    }
+}
+
+// The refusal that an answer holds.
+fn refused_code(read: ImapbRead) -> Number
+    ensures { λ r. ⌜ r ≡ refusedCode read ⌝ }
+{
+    match read {
+        ImapbRead::Done(_) => Number::Bits(0),
+        ImapbRead::Refused(refusal) => Number::Refused(refusal),
+    }
+}
+
+// Rule j) of one present slot.
+pub fn correlation_at(bytes: &[u8], at: usize, control: ParseControl) -> Number
+    ensures { λ r. ⌜ numberListed r ≡ correlationNumber (now (bytes .entry)) at control ⌝ }
+{
+    let clen = control.clen as usize;
+    if !control.cf {
+        return ieee_at(bytes, at, clen);
+    }
+    if left(bytes, at) < clen {
+        return Number::Refused(Refusal::TruncatedField);
+    }
+    // with no byte to read, `at` may lie past the end
+    if clen < 1 {
+        return Number::Refused(Refusal::UnsupportedImapbLength { length: clen });
+    }
+    let end = at + clen;
+    let read = decode_imapb(clen, &bytes[at..end]);
+    let ImapbRead::Done(decoded) = read else {
+        return refused_code(read);
+    };
+    Number::Bits(value_bits(decoded))
+}
+
+// A slot's number: 0.0 where it is absent.
+pub fn slot_at(bytes: &[u8], at: usize, control: ParseControl, present: u8) -> Number
+    ensures { λ r. ⌜ numberListed r ≡ slotNumber (now (bytes .entry)) at control present ⌝ }
+{
+    if present == 0 {
+        Number::Bits(0)
+    } else {
+        correlation_at(bytes, at, control)
+    }
+}

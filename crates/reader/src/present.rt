@@ -1,0 +1,72 @@
+//! Element 3, the Bit Vector: which slots are present.
+use layout::control::ParseControl;
+ghost use mathlib.Core.Path.{_≡_};
+ghost use Prim.Native.Nat.{_+_, _-_, _/_, _≤_, _<_, _^_};
+ghost use lib.Count.{ones as onesOf};
+ghost use lib.ListN.{getD};
+ghost use Rattle.reader.specs.Elements.{onesBefore, presentBefore, presenceIn};
+
+// The byte so far behind a place, and 0 past the end.
+pub(crate) fn byte_at(bytes: &[u8], at: usize, i: usize) -> u8
+    ensures { λ r. ⌜ r ≡ getD (now (bytes .entry)) (at + i) 0 ⌝ }
+{
+    if at < bytes.len() {
+        if i < bytes.len() - at {
+            return bytes[at + i];
+        }
+    }
+    0
+}
+
+// 1 where slot k is present, and 0 where it is absent.
+pub(crate) fn presence_of(bytes: &[u8], at: usize, control: ParseControl, k: usize) -> u8
+    ensures { λ r. ⌜ r ≡ presenceIn (now (bytes .entry)) at control k ⌝ }
+{
+    if control.clen == 0 {
+        return 0;
+    }
+    if control.cs {
+        (byte_at(bytes, at, k / 8) >> (7 - k % 8)) % 2
+    } else {
+        1
+    }
+}
+
+// How many of a byte's first n bits are set.
+fn set_bits(byte: u8, n: usize) -> usize
+    requires { ⌜ n ≤ 8 ⌝ }
+    ensures { λ r. ⌜ (r ≤ 8) × (r ≡ onesOf (byte / 2 ^ (8 - n))) ⌝ }
+{
+    // wider than a byte, since for n = 0 the shift is by 8
+    u32::count_ones((byte as u32) >> (8 - n)) as usize
+}
+
+// How many of the first `slots` bits of a vector are set: its padding is cut off the last byte.
+fn ones(bytes: &[u8], at: usize, slots: usize) -> usize
+    requires { ⌜ slots < 2 ^ 32 ⌝ }
+    ensures { λ r. ⌜ r ≡ onesBefore (now (bytes .entry)) at slots ⌝ }
+{
+    let whole = slots / 8;
+    let mut count: usize = 0;
+    let mut i: usize = 0;
+    while i < whole {
+        count += set_bits(byte_at(bytes, at, i), 8);
+        i += 1;
+    }
+    count + set_bits(byte_at(bytes, at, whole), slots % 8)
+}
+
+// How many of the slots are present.
+pub(crate) fn present_count(bytes: &[u8], at: usize, control: ParseControl, slots: usize) -> usize
+    requires { ⌜ slots < 2 ^ 32 ⌝ }
+    ensures { λ r. ⌜ r ≡ presentBefore (now (bytes .entry)) at control slots ⌝ }
+{
+    if control.clen == 0 {
+        return 0;
+    }
+    if control.cs {
+        ones(bytes, at, slots)
+    } else {
+        slots
+    }
+}

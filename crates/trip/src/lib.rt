@@ -1,0 +1,1 @@
+//! What ties the crates together: theorems about their definitions, and no code.
