@@ -18,7 +18,7 @@ pub enum Number {
 }
 
 // How many bytes there are from a place on.
-pub fn left(bytes: &[u8], at: usize) -> usize
+pub(crate) fn left(bytes: &[u8], at: usize) -> usize
     ensures { λ r. ⌜ r ≡ length (now (bytes .entry)) - at ⌝ }
 {
     if at < bytes.len() {
@@ -29,7 +29,7 @@ pub fn left(bytes: &[u8], at: usize) -> usize
 }
 
 // An IEEE number: binary32 for 4 bytes, binary64 for 8.
-pub fn ieee_at(bytes: &[u8], at: usize, size: usize) -> Number
+pub(crate) fn ieee_at(bytes: &[u8], at: usize, size: usize) -> Number
     ensures { λ r. ⌜ numberListed r ≡ ieeeNumber (now (bytes .entry)) at size ⌝ }
 {
     if left(bytes, at) < size {
@@ -50,7 +50,7 @@ pub fn ieee_at(bytes: &[u8], at: usize, size: usize) -> Number
 }
 
 // Rule h) of one deviation.
-pub fn deviation_at(bytes: &[u8], at: usize, control: ParseControl) -> Number
+pub(crate) fn deviation_at(bytes: &[u8], at: usize, control: ParseControl) -> Number
     ensures { λ r. ⌜ numberListed r ≡ deviationNumber (now (bytes .entry)) at control ⌝ }
 {
     let slen = control.slen as usize;
@@ -93,7 +93,7 @@ fn refused_code(read: ImapbRead) -> Number
 }
 
 // Rule j) of one present slot.
-pub fn correlation_at(bytes: &[u8], at: usize, control: ParseControl) -> Number
+pub(crate) fn correlation_at(bytes: &[u8], at: usize, control: ParseControl) -> Number
     ensures { λ r. ⌜ numberListed r ≡ correlationNumber (now (bytes .entry)) at control ⌝ }
 {
     let clen = control.clen as usize;
@@ -116,7 +116,7 @@ pub fn correlation_at(bytes: &[u8], at: usize, control: ParseControl) -> Number
 }
 
 // A slot's number: 0.0 where it is absent.
-pub fn slot_at(bytes: &[u8], at: usize, control: ParseControl, present: u8) -> Number
+pub(crate) fn slot_at(bytes: &[u8], at: usize, control: ParseControl, present: u8) -> Number
     ensures { λ r. ⌜ numberListed r ≡ slotNumber (now (bytes .entry)) at control present ⌝ }
 {
     if present == 0 {

@@ -3,6 +3,7 @@ use Prim.Native.Nat.{ℕ}
 use mathlib.Core.List.{List, [], _∷_, _++_}
 use lib.Dec.{eqb}
 use Rattle.answers.specs.Table.{Answer, answer, wholes, pick}
+use Rattle.layout.specs.Size.{maxRows, maxSlots}
 use Rattle.reader.specs.Elements.{headOf, deviations, correlations, presence}
 use Rattle.reader.specs.Rules.{readAnswer}
 
@@ -15,7 +16,7 @@ pub record Outcome : Type 0 where
 
 -- with room enough for any pack within the limits
 abbrev pub outcome : List ℕ → Outcome
-outcome bytes = given (readAnswer bytes 256 32640 32640)
+outcome bytes = given (readAnswer bytes maxRows maxSlots maxSlots)
   where
     given : Answer → Outcome
     given a =
