@@ -18,7 +18,7 @@ use Rattle.answers.specs.declared.Refusal.{Refusal}
 use Rattle.answers.proofs.OneToOne.{refused-not-done, done-not-refused}
 use Rattle.imapb.specs.Tables.{supported}
 use Rattle.layout.specs.declared.control.ParseControl.{ParseControl}
-use Rattle.reader.specs.declared.read.Head.{Head}
+use Rattle.reader.specs.declared.head.Head.{Head}
 use Rattle.reader.specs.Elements.{deviationsAt, deviationCount, codesAt, presentCount, isIeee, ieee, part, codeBits}
 use Rattle.reader.specs.Listed.{turnsRule}
 use Rattle.reader.specs.Numbers.{deviationNumber, correlationNumber}

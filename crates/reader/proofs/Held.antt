@@ -16,7 +16,7 @@ use Rattle.answers.proofs.Next.{Says, rules}
 use Rattle.layout.specs.Size.{maxRows, maxSlots}
 use Rattle.layout.specs.Triangle.{slotsOf}
 use Rattle.layout.proofs.RowByRow.{few-slots}
-use Rattle.reader.specs.declared.read.Head.{Head}
+use Rattle.reader.specs.declared.head.Head.{Head}
 use Rattle.reader.specs.Elements.{deviationsAt, deviationCount, codesAt, presentCount}
 use Rattle.reader.specs.Fill.{SlotsHeld, Within}
 use Rattle.reader.specs.Rules.{inTurn, deviationFormat, ruleH, ruleI, ruleJ, ruleK, elementRules, roomRules}

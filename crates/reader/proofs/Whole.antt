@@ -23,7 +23,7 @@ use Rattle.layout.specs.Size.{bodyAt, headRules, sizeRules, fitRules}
 use Rattle.layout.specs.Triangle.{slotsOf}
 use Rattle.layout.proofs.Fits.{fits-tells}
 use Rattle.layout.proofs.Peek.{opened, body-within, short-is}
-use Rattle.reader.specs.declared.read.Head.{Head}
+use Rattle.reader.specs.declared.head.Head.{Head}
 use Rattle.reader.specs.declared.read.ReadAnswer.{ReadAnswer}
 use Rattle.reader.specs.Elements.{headOf, deviations, correlations, presence}
 use Rattle.reader.specs.Fill.{Within}

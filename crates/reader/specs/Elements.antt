@@ -14,7 +14,7 @@ use Rattle.imapb.specs.declared.decode.DecodedImapb.the-variants.{Value, Specia
 use Rattle.imapb.specs.Special.{reading}
 use Rattle.layout.specs.declared.control.ParseControl.{ParseControl}
 use Rattle.layout.specs.Control.{isSet}
-use Rattle.reader.specs.declared.read.Head.{Head}
+use Rattle.reader.specs.declared.head.Head.{Head}
 use Rattle.layout.specs.Triangle.{slotsOf}
 use Rattle.layout.specs.Size.{matrixSize, controlOf, bodyAt}
 

@@ -6,7 +6,7 @@ use lib.ListN.{length}
 use Rattle.answers.specs.Table.{passes}
 use Rattle.layout.specs.declared.control.ParseControl.{ParseControl}
 use Rattle.layout.specs.Size.{maxRows}
-use Rattle.reader.specs.declared.read.Head.{Head}
+use Rattle.reader.specs.declared.head.Head.{Head}
 use Rattle.reader.specs.Elements.{presentBefore, deviationsAt}
 use Rattle.reader.specs.Rules.{codeFormat}
 

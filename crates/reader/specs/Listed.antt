@@ -11,7 +11,7 @@ use Rattle.layout.specs.declared.pack.SdccFlp.{SdccFlp}
 use Rattle.layout.specs.Triangle.{slotsOf}
 use Rattle.reader.specs.declared.read.ReadAnswer.{ReadAnswer}
 use Rattle.reader.specs.declared.read.ReadAnswer.the-variants.{Done, Refused}
-use Rattle.reader.specs.declared.read.Head.{Head}
+use Rattle.reader.specs.declared.head.Head.{Head}
 use Rattle.reader.specs.Elements.{deviationCount}
 use Rattle.reader.specs.Numbers.{Read, bits, refused}
 

@@ -9,7 +9,7 @@ use Rattle.layout.specs.declared.control.ParseControl.{ParseControl}
 use Rattle.imapb.specs.Tables.{supported}
 use Rattle.layout.specs.Size.{fitRules}
 use Rattle.layout.specs.Triangle.{slotsOf}
-use Rattle.reader.specs.declared.read.Head.{Head}
+use Rattle.reader.specs.declared.head.Head.{Head}
 use Rattle.reader.specs.Elements.{headOf, deviationsAt, deviationCount, codesAt, presentCount, endAt, isIeee}
 
 -- each of n elements of `size` bytes from `at` on, in turn: fewer bytes left: 1; then what its format is refused with

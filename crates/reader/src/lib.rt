@@ -1,5 +1,7 @@
 //! The reader of SDCC-FLP packs: `decode_sdcc_flp`.
+mod decide;
 mod fill;
+mod head;
 mod number;
 mod present;
 pub mod read;

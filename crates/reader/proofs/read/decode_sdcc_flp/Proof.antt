@@ -12,7 +12,7 @@ use Rattle.layout.specs.Size.{fitRules}
 use Rattle.layout.proofs.Peek.{body-within, fit-is}
 use Rattle.reader.specs.Elements.{headOf}
 use Rattle.reader.specs.Rules.{elementRules, roomRules}
-use Rattle.reader.specs.declared.read.Head.{Head}
+use Rattle.reader.specs.declared.head.Head.{Head}
 use Rattle.reader.proofs.Whole.{short-answer, head, head-is, within, passed, fit-stops, element-stops, room-stops, all-pass, kept, stored}
 use borrow.Author.Needs.{needs}
 use Rattle.reader.proofs.read.decode_sdcc_flp.Statement.{statement}

@@ -1,12 +1,12 @@
--- `read::places_of` meets its contract.
+-- `head::places_of` meets its contract.
 -- Assumes nothing.
 use Prim.Native.Nat.{_*_, _≤_}
 use native.Mathlib.Nat.{mul-le-mul-right}
 use native.Mathlib.Omega.{arith}
 use Rattle.layout.specs.Size.{maxRows}
 use borrow.Author.Needs.{needs}
-use Rattle.reader.proofs.read.places_of.Statement.{statement}
-use Rattle.reader.proofs.read.places_of.Tie as tie
+use Rattle.reader.proofs.head.places_of.Statement.{statement}
+use Rattle.reader.proofs.head.places_of.Tie as tie
 
 vector-length-requires : tie.Need-vector-length-requires
 vector-length-requires c κs = search needs

@@ -1,12 +1,12 @@
--- `read::deviations_held` meets its contract.
+-- `decide::deviations_held` meets its contract.
 -- Assumes nothing.
 use mathlib.Core.Path.{sym, _∙_}
 use native.Mathlib.Omega.{arith}
 use Rattle.reader.proofs.Decided.{by-first-deviation}
 use Rattle.reader.proofs.Held.{few-deviations}
 use borrow.Author.Needs.{needs}
-use Rattle.reader.proofs.read.deviations_held.Statement.{statement}
-use Rattle.reader.proofs.read.deviations_held.Tie as tie
+use Rattle.reader.proofs.decide.deviations_held.Statement.{statement}
+use Rattle.reader.proofs.decide.deviations_held.Tie as tie
 
 places-of-requires : tie.Need-places-of-requires
 places-of-requires c κs = search needs

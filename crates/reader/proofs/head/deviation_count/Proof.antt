@@ -1,9 +1,9 @@
--- `read::deviation_count` meets its contract.
+-- `head::deviation_count` meets its contract.
 -- Assumes nothing.
 use borrow.Author.Tests.{ne-eqb}
 use borrow.Author.Needs.{needs}
-use Rattle.reader.proofs.read.deviation_count.Statement.{statement}
-use Rattle.reader.proofs.read.deviation_count.Tie as tie
+use Rattle.reader.proofs.head.deviation_count.Statement.{statement}
+use Rattle.reader.proofs.head.deviation_count.Tie as tie
 
 cast-result : tie.Need-cast-result
 cast-result c = search needs

@@ -1,4 +1,4 @@
--- `read::codes_whole` meets its contract.
+-- `decide::codes_whole` meets its contract.
 -- Assumes nothing.
 use mathlib.Core.Path.{_≡_, sym, _∙_}
 use native.Mathlib.Omega.{arith}
@@ -8,8 +8,8 @@ use Rattle.reader.specs.Rules.{ruleI, ruleJ, ruleK}
 use Rattle.reader.proofs.Decided.{stops, goes, by-first-code}
 use Rattle.reader.proofs.Held.{few, few-codes, few-deviations, count-bytes}
 use borrow.Author.Needs.{needs}
-use Rattle.reader.proofs.read.codes_whole.Statement.{statement}
-use Rattle.reader.proofs.read.codes_whole.Tie as tie
+use Rattle.reader.proofs.decide.codes_whole.Statement.{statement}
+use Rattle.reader.proofs.decide.codes_whole.Tie as tie
 
 places-of-requires : tie.Need-places-of-requires
 places-of-requires c κs = search needs

@@ -1,11 +1,11 @@
--- `read::decide` meets its contract.
+-- `decide::decide` meets its contract.
 -- Assumes nothing.
 use mathlib.Core.Path.{sym, _∙_}
 use Rattle.reader.specs.Rules.{ruleH}
 use Rattle.reader.proofs.Decided.{stops, goes}
 use borrow.Author.Needs.{needs}
-use Rattle.reader.proofs.read.decide.Statement.{statement}
-use Rattle.reader.proofs.read.decide.Tie as tie
+use Rattle.reader.proofs.decide.decide.Statement.{statement}
+use Rattle.reader.proofs.decide.decide.Tie as tie
 
 deviations-held-requires : tie.Need-deviations-held-requires
 deviations-held-requires c κs = search needs

@@ -1,8 +1,8 @@
--- `read::pack_of` meets its contract.
+-- `head::pack_of` meets its contract.
 -- Assumes nothing.
 use borrow.Author.Needs.{needs}
-use Rattle.reader.proofs.read.pack_of.Statement.{statement}
-use Rattle.reader.proofs.read.pack_of.Tie as tie
+use Rattle.reader.proofs.head.pack_of.Statement.{statement}
+use Rattle.reader.proofs.head.pack_of.Tie as tie
 
 cast-t2 : tie.Need-cast-t2
 cast-t2 c = search needs
