@@ -7,6 +7,11 @@ mod map;
 mod mapped;
 mod narrow;
 mod oid;
+mod packs;
+mod packs_at_limits;
+mod packs_at_random;
+mod peek;
+mod read;
 mod special;
 mod widen;
 
@@ -24,13 +29,15 @@ pub struct Kind {
     pub random: fn(&mut Random) -> Case,
 }
 
-pub const KINDS: [Kind; 6] = [
+pub const KINDS: [Kind; 8] = [
     oid::KIND,
     widen::KIND,
     narrow::KIND,
     mapped::KIND,
     map::KIND,
     special::KIND,
+    peek::KIND,
+    read::KIND,
 ];
 
 // A byte string as requests and answers spell it.

@@ -26,7 +26,7 @@ fn case(bytes: &[u8]) -> Case {
 }
 
 // The value in the fewest bytes, after some 80s.
-fn spelled(value: u64, padding: u64) -> Vec<u8> {
+pub fn spelled(value: u64, padding: u64) -> Vec<u8> {
     let mut bytes = vec![(value % 128) as u8];
     let mut left = value / 128;
     while left > 0 {

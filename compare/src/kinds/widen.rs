@@ -30,7 +30,7 @@ fn case(bits: u32) -> Case {
 }
 
 // The Rust fixes no bits here: the sign stays, the fraction goes to the top, and the quiet bit is set.
-fn wide_nan(bits: u32) -> u64 {
+pub fn wide_nan(bits: u32) -> u64 {
     let sign = u64::from(bits >> 31) << 63;
     let fraction = u64::from(bits & 0x7F_FFFF) << 29;
     sign | 0x7FF8_0000_0000_0000 | fraction

@@ -8,6 +8,8 @@ ghost use lib.ListN.{length};
 
 const MARK: u8 = 0xa5;
 
+const WORD: u64 = 0xa5a5_a5a5_a5a5_a5a5;
+
 // The mark goes into every entry.
 pub fn mark(lent: &mut [u8]) {
     let mut i: usize = 0;
@@ -22,6 +24,26 @@ fn changed(lent: &[u8], from: usize) -> bool {
     let mut i = from;
     while i < lent.len() {
         if lent[i] != MARK {
+            return true;
+        }
+        i += 1;
+    }
+    false
+}
+
+// The same of words.
+pub fn mark_words(lent: &mut [u64]) {
+    let mut i: usize = 0;
+    while i < lent.len() {
+        lent[i] = WORD;
+        i += 1;
+    }
+}
+
+pub fn words_changed(lent: &[u64], from: usize) -> bool {
+    let mut i = from;
+    while i < lent.len() {
+        if lent[i] != WORD {
             return true;
         }
         i += 1;

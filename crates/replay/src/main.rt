@@ -5,6 +5,8 @@ mod line;
 mod mapped;
 mod numeric;
 mod output;
+mod pack_lines;
+mod packs;
 mod part;
 mod refusal;
 mod requests;
@@ -14,6 +16,11 @@ const LINE: usize = 655_360;
 
 // No line spells more bytes, and no request is lent more.
 const BYTES: usize = LINE / 2;
+
+// The largest pack has 256 deviations and 32,640 slots. A request can be lent more, so that what stands past them shows.
+const DEVIATIONS: usize = 1024;
+
+const SLOTS: usize = 33_792;
 
 // How far a block has been taken, how much of a line that gave, and whether a newline ended the line.
 struct Taken {
@@ -55,13 +62,30 @@ fn take_line(block: &[u8], at: usize, line: &mut [u8], read: usize) -> Taken {
 }
 
 // The answer to a line of which so much was read. A line that fills its room is too long.
-fn answer_line(line: &[u8], read: usize, bytes: &mut [u8], out: &mut [u8], held: usize) -> usize {
+fn answer_line(
+    line: &[u8],
+    read: usize,
+    bytes: &mut [u8],
+    deviations: &mut [u64],
+    correlations: &mut [u64],
+    presence: &mut [u8],
+    out: &mut [u8],
+    held: usize,
+) -> usize {
     if line.len() <= read {
         let refused = refusal::bad_request(out, held);
         return output::put(out, refused, b'\n');
     }
     let count = part::within(read, line);
-    let answered = requests::answer(&line[..count], bytes, out, held);
+    let answered = requests::answer(
+        &line[..count],
+        bytes,
+        deviations,
+        correlations,
+        presence,
+        out,
+        held,
+    );
     output::put(out, answered, b'\n')
 }
 
@@ -79,13 +103,25 @@ fn turn(
     block: &mut [u8],
     line: &mut [u8],
     bytes: &mut [u8],
+    deviations: &mut [u64],
+    correlations: &mut [u64],
+    presence: &mut [u8],
     out: &mut [u8],
     state: State,
 ) -> State {
     let end = part::within(state.end, block);
     let taken = take_line(&block[..end], state.at, line, state.read);
     if taken.ended {
-        let held = answer_line(line, taken.read, bytes, out, state.held);
+        let held = answer_line(
+            line,
+            taken.read,
+            bytes,
+            deviations,
+            correlations,
+            presence,
+            out,
+            state.held,
+        );
         return State {
             at: taken.next,
             end,
@@ -107,7 +143,15 @@ fn turn(
 }
 
 // Answers how much was read of a last line that no newline ends. The turns are counted down, from a number that no run uses up, since nothing says that the input ends.
-fn answer_all(block: &mut [u8], line: &mut [u8], bytes: &mut [u8], out: &mut [u8]) -> usize {
+fn answer_all(
+    block: &mut [u8],
+    line: &mut [u8],
+    bytes: &mut [u8],
+    deviations: &mut [u64],
+    correlations: &mut [u64],
+    presence: &mut [u8],
+    out: &mut [u8],
+) -> usize {
     let mut state = State {
         at: 0,
         end: 0,
@@ -118,7 +162,16 @@ fn answer_all(block: &mut [u8], line: &mut [u8], bytes: &mut [u8], out: &mut [u8
     let mut turns = u64::MAX;
     while 0 < turns {
         turns -= 1;
-        state = turn(block, line, bytes, out, state);
+        state = turn(
+            block,
+            line,
+            bytes,
+            deviations,
+            correlations,
+            presence,
+            out,
+            state,
+        );
         if !state.more {
             return state.read;
         }
@@ -135,14 +188,46 @@ fn room_for_bytes() -> [u8; BYTES] {
     [0; BYTES]
 }
 
+fn room_for_deviations() -> [u64; DEVIATIONS] {
+    [0; DEVIATIONS]
+}
+
+fn room_for_correlations() -> [u64; SLOTS] {
+    [0; SLOTS]
+}
+
+fn room_for_presence() -> [u8; SLOTS] {
+    [0; SLOTS]
+}
+
 fn main() {
     let mut block = io::large_buffer();
     let mut line = room_for_line();
     let mut bytes = room_for_bytes();
+    let mut deviations = room_for_deviations();
+    let mut correlations = room_for_correlations();
+    let mut presence = room_for_presence();
     let mut out = io::large_buffer();
-    let read = answer_all(&mut block, &mut line, &mut bytes, &mut out);
+    let read = answer_all(
+        &mut block,
+        &mut line,
+        &mut bytes,
+        &mut deviations,
+        &mut correlations,
+        &mut presence,
+        &mut out,
+    );
     if 0 < read {
-        let held = answer_line(&line, read, &mut bytes, &mut out, 0);
+        let held = answer_line(
+            &line,
+            read,
+            &mut bytes,
+            &mut deviations,
+            &mut correlations,
+            &mut presence,
+            &mut out,
+            0,
+        );
         output::flush(&out, held);
     }
 }

@@ -55,6 +55,14 @@ pub fn put_whole(out: &mut [u8], held: usize, value: u64) -> usize
     put_decimal(out, spaced, value)
 }
 
+// A text, a space and a whole number.
+pub fn put_named(out: &mut [u8], held: usize, text: &[u8], value: u64) -> usize
+    ensures { λ r. ⌜ r ≤ length (now (out .entry)) ⌝ }
+{
+    let named = put_text(out, held, text);
+    put_whole(out, named, value)
+}
+
 // The upper-case hex digit of a number below 16.
 fn digit(value: u64) -> u8 {
     if value < 10 {

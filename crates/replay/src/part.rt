@@ -15,3 +15,15 @@ pub fn within(count: usize, bytes: &[u8]) -> usize
         bytes.len()
     }
 }
+
+// The same of words.
+pub fn within_words(count: usize, words: &[u64]) -> usize
+    ensures { λ r. ⌜ Counts r (now (words .entry)) ⌝ }
+    ensures { λ r. ⌜ r ≡ min count (length (now (words .entry))) ⌝ }
+{
+    if count < words.len() {
+        count
+    } else {
+        words.len()
+    }
+}

@@ -10,18 +10,10 @@ pub fn bad_request(out: &mut [u8], held: usize) -> usize
     output::put_text(out, held, b"bad request")
 }
 
-// A text and a whole number.
-fn put_one(out: &mut [u8], held: usize, text: &[u8], value: u64) -> usize
-    ensures { λ r. ⌜ r ≤ length (now (out .entry)) ⌝ }
-{
-    let named = output::put_text(out, held, text);
-    output::put_whole(out, named, value)
-}
-
 fn put_two(out: &mut [u8], held: usize, text: &[u8], first: u64, second: u64) -> usize
     ensures { λ r. ⌜ r ≤ length (now (out .entry)) ⌝ }
 {
-    let one = put_one(out, held, text, first);
+    let one = output::put_named(out, held, text, first);
     output::put_whole(out, one, second)
 }
 
@@ -55,7 +47,7 @@ pub fn put_refusal(out: &mut [u8], held: usize, refusal: Refusal) -> usize
             let named = output::put_text(out, held, b"refused 3");
             put_correlation(out, named, value, least, most)
         }
-        Refusal::UnsupportedImapbLength { length } => put_one(
+        Refusal::UnsupportedImapbLength { length } => output::put_named(
             out,
             held,
             b"refused 4",
@@ -68,7 +60,7 @@ pub fn put_refusal(out: &mut [u8], held: usize, refusal: Refusal) -> usize
             needed as u64,
             got as u64,
         ),
-        Refusal::TooManyRows { n } => put_one(out, held, b"refused 6", n as u64),
+        Refusal::TooManyRows { n } => output::put_named(out, held, b"refused 6", n as u64),
         Refusal::NoSuchCell { i, j } => put_two(out, held, b"refused 7", i, j),
     }
 }

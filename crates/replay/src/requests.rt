@@ -2,12 +2,21 @@
 use crate::mapped;
 use crate::numeric;
 use crate::output::Answered;
+use crate::packs;
 use crate::refusal::bad_request;
 ghost use Prim.Native.Nat.{_≤_};
 ghost use lib.ListN.{length};
 
 // The answer to a line, without its newline.
-pub fn answer(line: &[u8], bytes: &mut [u8], out: &mut [u8], held: usize) -> usize
+pub fn answer(
+    line: &[u8],
+    bytes: &mut [u8],
+    deviations: &mut [u64],
+    correlations: &mut [u64],
+    presence: &mut [u8],
+    out: &mut [u8],
+    held: usize,
+) -> usize
     ensures { λ r. ⌜ r ≤ length (now (out .entry)) ⌝ }
 {
     let on_numbers = numeric::answer(line, bytes, out, held);
@@ -16,6 +25,10 @@ pub fn answer(line: &[u8], bytes: &mut [u8], out: &mut [u8], held: usize) -> usi
     }
     let on_codes = mapped::answer(line, bytes, out, held);
     if let Answered::Held(answered) = on_codes {
+        return answered;
+    }
+    let on_packs = packs::answer(line, bytes, deviations, correlations, presence, out, held);
+    if let Answered::Held(answered) = on_packs {
         return answered;
     }
     bad_request(out, held)

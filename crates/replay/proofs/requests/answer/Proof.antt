@@ -14,6 +14,11 @@ returns-2 c =
     let kept = c .before .before .before .before .before .before .before .answer2 .ensures in
     omega (arith, rw (c .before .on-codes .given .1) at kept)
 
+returns-3 : tie.Need-returns-3
+returns-3 c =
+    let kept = c .before .before .before .before .before .before .before .before .before .before .before .before .before .answer3 .ensures in
+    omega (arith, rw (c .before .on-packs .given .1) at kept)
+
 pub answer-spec : {M : Type 1} → statement M
 answer-spec =
     tie.close
@@ -31,6 +36,18 @@ answer-spec =
     returns-2
     (λ c. search needs)
     (λ c κs. search needs)
+    (λ c. search needs)
+    (λ c. search needs)
+    (λ c. search needs)
+    (λ c. search needs)
+    (λ c. search needs)
+    (λ c. search needs)
+    returns-3
+    (λ c. search needs)
+    (λ c κs. search needs)
+    (λ c. search needs)
+    (λ c. search needs)
+    (λ c. search needs)
     (λ c. search needs)
     (λ c. search needs)
     (λ c. search needs))

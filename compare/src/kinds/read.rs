@@ -1,0 +1,169 @@
+//! `read DROOM CROOM PROOM HEX`: a whole pack, by the Rust's `decode_sdcc_flp`.
+use super::packs::{pack, slots, Control};
+use super::packs_at_limits::{documented, every_control, every_short, every_size, longest, padded};
+use super::packs_at_random::made;
+use super::widen::wide_nan;
+use super::{hex, Case, Kind};
+use crate::error::KlvFieldError;
+use crate::klv::length::read_ber_oid;
+use crate::klv::st1010::{decode_sdcc_flp, SdccFlp};
+use crate::random::Random;
+use std::fmt::Write;
+
+pub const KIND: Kind = Kind {
+    name: "read",
+    limits,
+    random,
+};
+
+// How many deviations, correlations and entries of presence are lent.
+type Rooms = [usize; 3];
+
+// As many as a request has to be taken with, and enough for what is small.
+const LARGEST: Rooms = [300, 33_000, 33_000];
+const SMALL: Rooms = [9, 40, 40];
+
+fn case(rooms: Rooms, bytes: &[u8]) -> Case {
+    let answer = match decode_sdcc_flp(bytes) {
+        Ok(read) => short(&read, rooms).unwrap_or_else(|| lines(bytes, &read)),
+        Err(error) => refused(error),
+    };
+    let [deviations, correlations, presence] = rooms;
+    Case {
+        request: format!("read {deviations} {correlations} {presence} {}", hex(bytes)),
+        answer,
+    }
+}
+
+fn refused(error: KlvFieldError) -> String {
+    match error {
+        KlvFieldError::TruncatedField { .. } => "refused 1".to_string(),
+        KlvFieldError::InvalidLength { expected, got, .. } => {
+            format!("refused 2 {expected} {got}")
+        }
+        // the sizes are whole numbers, which the Rust carries as floats
+        KlvFieldError::OutOfRange {
+            value, min, max, ..
+        } => format!("refused 3 {} {} {}", value as u64, min as u64, max as u64),
+        KlvFieldError::UnsupportedImapbLength { length } => format!("refused 4 {length}"),
+        error => panic!("{error:?}"),
+    }
+}
+
+// Rule l), which the Rust has no need of: it allocates.
+fn short(read: &SdccFlp, rooms: Rooms) -> Option<String> {
+    let slots = read.correlations.len();
+    let needed = [read.std_devs.len(), slots, slots];
+    let mut lent = needed.into_iter().zip(rooms);
+    let (needed, got) = lent.find(|(needed, got)| got < needed)?;
+    Some(format!("refused 5 {needed} {got}"))
+}
+
+// The bytes of a deviation and of a correlation.
+fn sizes(bytes: &[u8]) -> [usize; 2] {
+    let (_, rest) = read_ber_oid(bytes).unwrap();
+    let sizes = if rest[0] < 0x80 {
+        [rest[0] >> 4, rest[0] & 7]
+    } else {
+        [rest[1] & 15, rest[0] & 15]
+    };
+    sizes.map(usize::from)
+}
+
+// The bits of what was read from these bytes. Those of a NaN follow from the bytes: the Rust fixes none where it converts it.
+fn bits(number: f64, bytes: &[u8]) -> u64 {
+    if !number.is_nan() {
+        return number.to_bits();
+    }
+    match bytes.try_into() {
+        Ok(four) => wide_nan(u32::from_be_bytes(four)),
+        Err(_) => u64::from_be_bytes(bytes.try_into().unwrap()),
+    }
+}
+
+// The lines of a pack that was read. Its numbers stand at the end of the bytes.
+fn lines(bytes: &[u8], read: &SdccFlp) -> String {
+    let [slen, clen] = sizes(bytes);
+    let n = read.matrix_size as usize;
+    let present = &read.correlation_present;
+    let codes = present.iter().filter(|&&present| present).count();
+    let mut next = bytes.len() - codes * clen - read.std_devs.len() * slen;
+    let mut raw = |size: usize| {
+        next += size;
+        &bytes[next - size..next]
+    };
+    let mut lines = format!(
+        "n {n} deviations {} slots {}",
+        read.std_devs.len(),
+        read.correlations.len()
+    );
+    for (row, &deviation) in read.std_devs.iter().enumerate() {
+        write!(lines, ";s {row} {:016X}", bits(deviation, raw(slen))).unwrap();
+    }
+    let cells = (0..n).flat_map(|i| (i + 1..n).map(move |j| (i, j)));
+    for (slot, (i, j)) in cells.enumerate() {
+        let size = if present[slot] { clen } else { 0 };
+        let bits = bits(read.correlations[slot], raw(size));
+        write!(lines, ";c {i} {j} {} {bits:016X}", u8::from(present[slot])).unwrap();
+    }
+    lines
+}
+
+// None, one short, exact and larger.
+fn rooms_around(needed: usize) -> Vec<usize> {
+    let mut rooms = vec![0, needed, needed + 1, needed + 5];
+    rooms.extend(needed.checked_sub(1));
+    rooms
+}
+
+// Every choice of rooms for a pack.
+fn in_every_room(n: u64, bytes: &[u8]) -> Vec<Case> {
+    let mut cases = Vec::new();
+    for deviations in rooms_around(n as usize) {
+        for correlations in rooms_around(slots(n)) {
+            for presence in rooms_around(slots(n)) {
+                cases.push(case([deviations, correlations, presence], bytes));
+            }
+        }
+    }
+    cases
+}
+
+// Small packs, with deviations and without.
+fn every_room() -> Vec<Case> {
+    let mut random = Random::new(2);
+    let mut cases = Vec::new();
+    for n in [0, 1, 2, 3, 4, 9] {
+        for (cs, slen) in [(false, 4), (true, 4), (false, 0), (true, 0)] {
+            let made = pack(&mut random, n, 0, Control::of(cs, true, 2, slen));
+            cases.extend(in_every_room(n, &made.bytes));
+        }
+    }
+    cases
+}
+
+fn limits() -> Vec<Case> {
+    let mut cases = every_room();
+    for small in [every_short(), documented(), padded(), every_control()] {
+        cases.extend(small.iter().map(|bytes| case(SMALL, bytes)));
+    }
+    for any in [documented(), every_size(), vec![longest()]] {
+        cases.extend(any.iter().map(|bytes| case(LARGEST, bytes)));
+    }
+    cases
+}
+
+fn random(random: &mut Random) -> Case {
+    let (bytes, n) = made(random);
+    if n > 256 {
+        return case(SMALL, &bytes);
+    }
+    let needed = [n as usize, slots(n), slots(n)];
+    let rooms = match random.below(32) {
+        0 => LARGEST,
+        1..=8 => needed.map(|needed| random.pick(&rooms_around(needed))),
+        9..=16 => needed.map(|needed| needed + random.below(4) as usize),
+        _ => needed,
+    };
+    case(rooms, &bytes)
+}

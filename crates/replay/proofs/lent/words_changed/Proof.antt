@@ -1,0 +1,27 @@
+-- `replay::lent::words_changed` is safe and ends: the entries are used up.
+use Prim.Native.Nat.{_-_}
+use borrow.Author.Needs.{needs}
+use lib.ListN.{length}
+use Rattle.replay.proofs.lent.words_changed.Statement.{statement}
+use Rattle.replay.proofs.lent.words_changed.Tie as tie
+
+abbrev Inv-loop : tie.InvT-loop
+Inv-loop lent from i₀ i = Unit {0}
+
+abbrev μ-loop : tie.MeasureT-loop
+μ-loop lent from i₀ i = length lent - i
+
+pub words-changed-spec : {M : Type 1} → statement M
+words-changed-spec =
+    tie.close
+    (tie.spec
+    Inv-loop
+    μ-loop
+    (λ c. search needs)
+    (λ c. search needs)
+    (λ c. search needs)
+    (λ c. search needs)
+    (λ c. search needs)
+    (λ c. search needs)
+    (λ c. search needs)
+    (λ c. search needs))
