@@ -105,6 +105,19 @@ fn compare(seed: u64, count: usize, program: &[String]) -> io::Result<ExitCode> 
     Ok(ExitCode::from(u8::from(differ > 0)))
 }
 
+// Every string of three bytes, peeked at and read, those of one first byte at a time.
+fn three_bytes(program: &[String]) -> io::Result<ExitCode> {
+    let mut compared = 0;
+    let mut differ = 0;
+    for first in 0..=u8::MAX {
+        let cases = kinds::of_three(first);
+        differ += differing(&cases, &asked(program, &cases)?);
+        compared += cases.len();
+    }
+    println!("{compared} compared, {differ} differ");
+    Ok(ExitCode::from(u8::from(differ > 0)))
+}
+
 // The requests into sample.req, and the Rust's answers into sample.ans.
 fn sample(seed: u64, count: usize, folder: &Path) -> io::Result<ExitCode> {
     let cases = at_random(seed, count);
@@ -123,11 +136,14 @@ fn main() -> ExitCode {
         [mode, seed, count, folder] if mode == "--sample" => {
             sample(number(seed), number(count) as usize, Path::new(folder))
         }
+        [mode, program @ ..] if mode == "--three-bytes" && !program.is_empty() => {
+            three_bytes(program)
+        }
         [seed, count, program @ ..] if !program.is_empty() => {
             compare(number(seed), number(count) as usize, program)
         }
         _ => Err(io::Error::other(
-            "usage: compare SEED COUNT PROGRAM.. | compare --sample SEED COUNT FOLDER",
+            "usage: compare SEED COUNT PROGRAM.. | compare --three-bytes PROGRAM.. | compare --sample SEED COUNT FOLDER",
         )),
     };
     ended.unwrap_or_else(|error| {

@@ -40,6 +40,15 @@ pub const KINDS: [Kind; 8] = [
     read::KIND,
 ];
 
+// Every string of three bytes that starts with this one, peeked at and read.
+pub fn of_three(first: u8) -> Vec<Case> {
+    let rest = (0..=u16::MAX).map(u16::to_be_bytes);
+    let strings = rest.map(|[second, third]| [first, second, third]);
+    strings
+        .flat_map(|bytes| [peek::case(&bytes), read::case(read::SMALL, &bytes)])
+        .collect()
+}
+
 // A byte string as requests and answers spell it.
 fn hex(bytes: &[u8]) -> String {
     if bytes.is_empty() {

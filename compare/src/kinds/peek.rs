@@ -11,7 +11,7 @@ pub const KIND: Kind = Kind {
     random,
 };
 
-fn case(bytes: &[u8]) -> Case {
+pub(super) fn case(bytes: &[u8]) -> Case {
     let answer = match peek_matrix_size(bytes) {
         Some(n) => format!("size {n}"),
         None => "nothing".to_string(),

@@ -17,13 +17,13 @@ pub const KIND: Kind = Kind {
 };
 
 // How many deviations, correlations and entries of presence are lent.
-type Rooms = [usize; 3];
+pub(super) type Rooms = [usize; 3];
 
 // As many as a request has to be taken with, and enough for what is small.
 const LARGEST: Rooms = [300, 33_000, 33_000];
-const SMALL: Rooms = [9, 40, 40];
+pub(super) const SMALL: Rooms = [9, 40, 40];
 
-fn case(rooms: Rooms, bytes: &[u8]) -> Case {
+pub(super) fn case(rooms: Rooms, bytes: &[u8]) -> Case {
     let answer = match decode_sdcc_flp(bytes) {
         Ok(read) => short(&read, rooms).unwrap_or_else(|| lines(bytes, &read)),
         Err(error) => refused(error),
