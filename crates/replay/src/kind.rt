@@ -26,7 +26,7 @@ fn past_kind(line: &[u8], at: usize, kind: u64) -> Place {
 }
 
 // The kind's number.
-pub fn kind(line: &[u8], at: usize) -> Number {
+pub(crate) fn kind(line: &[u8], at: usize) -> Number {
     let mut value: u64 = 0;
     while value < KINDS {
         let after = past_kind(line, at, value);
@@ -39,7 +39,7 @@ pub fn kind(line: &[u8], at: usize) -> Number {
 }
 
 // The special value of that kind.
-pub fn special_of(kind: u64, payload: u64) -> ImapbSpecial {
+pub(crate) fn special_of(kind: u64, payload: u64) -> ImapbSpecial {
     match kind {
         0 => ImapbSpecial::UserDefined { signal: payload },
         1 => ImapbSpecial::PositiveInfinity,
@@ -62,7 +62,7 @@ fn put_kind(out: &mut [u8], held: usize, word: &[u8], payload: u64) -> usize
     output::put_whole(out, worded, payload)
 }
 
-pub fn put_special(out: &mut [u8], held: usize, special: ImapbSpecial) -> usize
+pub(crate) fn put_special(out: &mut [u8], held: usize, special: ImapbSpecial) -> usize
     ensures { λ r. ⌜ r ≤ length (now (out .entry)) ⌝ }
 {
     match special {

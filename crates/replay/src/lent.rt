@@ -11,7 +11,7 @@ const MARK: u8 = 0xa5;
 const WORD: u64 = 0xa5a5_a5a5_a5a5_a5a5;
 
 // The mark goes into every entry.
-pub fn mark(lent: &mut [u8]) {
+pub(crate) fn mark(lent: &mut [u8]) {
     let mut i: usize = 0;
     while i < lent.len() {
         lent[i] = MARK;
@@ -32,7 +32,7 @@ fn changed(lent: &[u8], from: usize) -> bool {
 }
 
 // The same of words.
-pub fn mark_words(lent: &mut [u64]) {
+pub(crate) fn mark_words(lent: &mut [u64]) {
     let mut i: usize = 0;
     while i < lent.len() {
         lent[i] = WORD;
@@ -40,7 +40,7 @@ pub fn mark_words(lent: &mut [u64]) {
     }
 }
 
-pub fn words_changed(lent: &[u64], from: usize) -> bool {
+pub(crate) fn words_changed(lent: &[u64], from: usize) -> bool {
     let mut i = from;
     while i < lent.len() {
         if lent[i] != WORD {
@@ -52,7 +52,7 @@ pub fn words_changed(lent: &[u64], from: usize) -> bool {
 }
 
 // The end of an answer after which the entries from a place on are to be as they were.
-pub fn put_touched(out: &mut [u8], held: usize, lent: &[u8], from: usize) -> usize
+pub(crate) fn put_touched(out: &mut [u8], held: usize, lent: &[u8], from: usize) -> usize
     ensures { λ r. ⌜ r ≤ length (now (out .entry)) ⌝ }
 {
     if changed(lent, from) {
@@ -63,7 +63,7 @@ pub fn put_touched(out: &mut [u8], held: usize, lent: &[u8], from: usize) -> usi
 }
 
 // The answer of what writes into the front of lent bytes.
-pub fn put_written(out: &mut [u8], held: usize, written: Written, lent: &[u8]) -> usize
+pub(crate) fn put_written(out: &mut [u8], held: usize, written: Written, lent: &[u8]) -> usize
     ensures { λ r. ⌜ r ≤ length (now (out .entry)) ⌝ }
 {
     match written {

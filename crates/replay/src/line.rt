@@ -22,7 +22,7 @@ pub enum Bytes {
 }
 
 // Past the text, where the line has it.
-pub fn past(line: &[u8], at: usize, text: &[u8]) -> Place
+pub(crate) fn past(line: &[u8], at: usize, text: &[u8]) -> Place
     ensures { λ r. ⌜ Passed at (length (now (text .entry))) r ⌝ }
 {
     let mut next = at;
@@ -63,7 +63,7 @@ fn digit(line: &[u8], at: usize) -> u64
 }
 
 // The number of so many hex digits. Of more than sixteen the last sixteen count.
-pub fn hex(line: &[u8], at: usize, digits: usize) -> Number
+pub(crate) fn hex(line: &[u8], at: usize, digits: usize) -> Number
     ensures { λ r. ⌜ Digits at digits r ⌝ }
 {
     let mut value: u64 = 0;
@@ -82,7 +82,7 @@ pub fn hex(line: &[u8], at: usize, digits: usize) -> Number
 }
 
 // The decimal number, up to 2^64-1.
-pub fn decimal(line: &[u8], at: usize) -> Number
+pub(crate) fn decimal(line: &[u8], at: usize) -> Number
     ensures { λ r. ⌜ Numeral at r ⌝ }
 {
     let mut value: u64 = 0;
@@ -104,7 +104,7 @@ pub fn decimal(line: &[u8], at: usize) -> Number
 }
 
 // The decimal number and the space after it.
-pub fn decimal_before_space(line: &[u8], at: usize) -> Number {
+pub(crate) fn decimal_before_space(line: &[u8], at: usize) -> Number {
     let number = decimal(line, at);
     let Number::Read { value, next } = number else {
         return Number::Malformed;
@@ -143,7 +143,7 @@ fn pairs(line: &[u8], at: usize, bytes: &mut [u8]) -> Bytes
 }
 
 // The byte string, into the front of `bytes`: hex, or `-` where it is empty.
-pub fn byte_string(line: &[u8], at: usize, bytes: &mut [u8]) -> Bytes
+pub(crate) fn byte_string(line: &[u8], at: usize, bytes: &mut [u8]) -> Bytes
     ensures { λ r. ⌜ Spelled (length (now (bytes .entry))) r ⌝ }
 {
     let dash = past(line, at, b"-");

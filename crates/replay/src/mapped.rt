@@ -156,7 +156,7 @@ fn special(line: &[u8], at: usize, bytes: &mut [u8], out: &mut [u8], held: usize
 }
 
 // The answer to a line that is one of these requests.
-pub fn answer(line: &[u8], bytes: &mut [u8], out: &mut [u8], held: usize) -> Answered
+pub(crate) fn answer(line: &[u8], bytes: &mut [u8], out: &mut [u8], held: usize) -> Answered
     ensures { λ r. ⌜ Kept (length (now (out .entry))) r ⌝ }
 {
     let after_mapped = line::past(line, 0, b"mapped ");

@@ -80,7 +80,7 @@ fn narrow(line: &[u8], at: usize, out: &mut [u8], held: usize) -> usize
 }
 
 // The answer to a line that is one of these requests.
-pub fn answer(line: &[u8], bytes: &mut [u8], out: &mut [u8], held: usize) -> Answered
+pub(crate) fn answer(line: &[u8], bytes: &mut [u8], out: &mut [u8], held: usize) -> Answered
     ensures { λ r. ⌜ Kept (length (now (out .entry))) r ⌝ }
 {
     let after_oid = line::past(line, 0, b"oid ");

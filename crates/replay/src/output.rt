@@ -11,7 +11,7 @@ pub enum Answered {
 }
 
 // A byte more is held.
-pub fn put(out: &mut [u8], held: usize, byte: u8) -> usize
+pub(crate) fn put(out: &mut [u8], held: usize, byte: u8) -> usize
     ensures { λ r. ⌜ r ≤ length (now (out .entry)) ⌝ }
 {
     let mut at = held;
@@ -27,7 +27,7 @@ pub fn put(out: &mut [u8], held: usize, byte: u8) -> usize
     }
 }
 
-pub fn put_text(out: &mut [u8], held: usize, text: &[u8]) -> usize
+pub(crate) fn put_text(out: &mut [u8], held: usize, text: &[u8]) -> usize
     ensures { λ r. ⌜ r ≤ length (now (out .entry)) ⌝ }
 {
     let mut at = within(held, out);
@@ -39,7 +39,7 @@ pub fn put_text(out: &mut [u8], held: usize, text: &[u8]) -> usize
     at
 }
 
-pub fn put_decimal(out: &mut [u8], held: usize, value: u64) -> usize
+pub(crate) fn put_decimal(out: &mut [u8], held: usize, value: u64) -> usize
     ensures { λ r. ⌜ r ≤ length (now (out .entry)) ⌝ }
 {
     let mut digits = [0u8; 20];
@@ -48,7 +48,7 @@ pub fn put_decimal(out: &mut [u8], held: usize, value: u64) -> usize
 }
 
 // A space and a whole number.
-pub fn put_whole(out: &mut [u8], held: usize, value: u64) -> usize
+pub(crate) fn put_whole(out: &mut [u8], held: usize, value: u64) -> usize
     ensures { λ r. ⌜ r ≤ length (now (out .entry)) ⌝ }
 {
     let spaced = put(out, held, b' ');
@@ -56,7 +56,7 @@ pub fn put_whole(out: &mut [u8], held: usize, value: u64) -> usize
 }
 
 // A text, a space and a whole number.
-pub fn put_named(out: &mut [u8], held: usize, text: &[u8], value: u64) -> usize
+pub(crate) fn put_named(out: &mut [u8], held: usize, text: &[u8], value: u64) -> usize
     ensures { λ r. ⌜ r ≤ length (now (out .entry)) ⌝ }
 {
     let named = put_text(out, held, text);
@@ -73,7 +73,7 @@ fn digit(value: u64) -> u8 {
 }
 
 // The value's last hex digits, so many.
-pub fn put_hex(out: &mut [u8], held: usize, value: u64, digits: usize) -> usize
+pub(crate) fn put_hex(out: &mut [u8], held: usize, value: u64, digits: usize) -> usize
     ensures { λ r. ⌜ r ≤ length (now (out .entry)) ⌝ }
 {
     let mut at = within(held, out);
@@ -87,7 +87,7 @@ pub fn put_hex(out: &mut [u8], held: usize, value: u64, digits: usize) -> usize
 }
 
 // A space and the bits of a binary64.
-pub fn put_bits(out: &mut [u8], held: usize, bits: u64) -> usize
+pub(crate) fn put_bits(out: &mut [u8], held: usize, bits: u64) -> usize
     ensures { λ r. ⌜ r ≤ length (now (out .entry)) ⌝ }
 {
     let spaced = put(out, held, b' ');
@@ -95,7 +95,7 @@ pub fn put_bits(out: &mut [u8], held: usize, bits: u64) -> usize
 }
 
 // The byte string: hex, or `-` where it is empty.
-pub fn put_bytes(out: &mut [u8], held: usize, bytes: &[u8]) -> usize
+pub(crate) fn put_bytes(out: &mut [u8], held: usize, bytes: &[u8]) -> usize
     ensures { λ r. ⌜ r ≤ length (now (out .entry)) ⌝ }
 {
     if bytes.len() == 0 {
@@ -111,7 +111,7 @@ pub fn put_bytes(out: &mut [u8], held: usize, bytes: &[u8]) -> usize
 }
 
 // What is held is written out, and nothing is held any more.
-pub fn flush(out: &[u8], held: usize) -> usize
+pub(crate) fn flush(out: &[u8], held: usize) -> usize
     ensures { λ r. ⌜ r ≡ 0 ⌝ }
 {
     let count = within(held, out);

@@ -82,7 +82,7 @@ fn put_slots(out: &mut [u8], held: usize, size: u64, correlations: &[u64], prese
 }
 
 // All of them.
-pub fn put_pack(
+pub(crate) fn put_pack(
     out: &mut [u8],
     held: usize,
     pack: SdccFlp,

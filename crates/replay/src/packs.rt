@@ -233,7 +233,7 @@ fn read(
 }
 
 // The answer to a line that is one of these requests.
-pub fn answer(
+pub(crate) fn answer(
     line: &[u8],
     bytes: &mut [u8],
     deviations: &mut [u64],

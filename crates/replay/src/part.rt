@@ -5,7 +5,7 @@ ghost use lib.ListN.{length};
 ghost use Rattle.io.specs.Counts.{Counts};
 
 // The count, or the slice's length where that is less, so that `&bytes[..n]` leaves nothing to show.
-pub fn within(count: usize, bytes: &[u8]) -> usize
+pub(crate) fn within(count: usize, bytes: &[u8]) -> usize
     ensures { λ r. ⌜ Counts r (now (bytes .entry)) ⌝ }
     ensures { λ r. ⌜ r ≡ min count (length (now (bytes .entry))) ⌝ }
 {
@@ -17,7 +17,7 @@ pub fn within(count: usize, bytes: &[u8]) -> usize
 }
 
 // The same of words.
-pub fn within_words(count: usize, words: &[u64]) -> usize
+pub(crate) fn within_words(count: usize, words: &[u64]) -> usize
     ensures { λ r. ⌜ Counts r (now (words .entry)) ⌝ }
     ensures { λ r. ⌜ r ≡ min count (length (now (words .entry))) ⌝ }
 {

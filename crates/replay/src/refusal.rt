@@ -4,7 +4,7 @@ use answers::Refusal;
 ghost use Prim.Native.Nat.{_≤_};
 ghost use lib.ListN.{length};
 
-pub fn bad_request(out: &mut [u8], held: usize) -> usize
+pub(crate) fn bad_request(out: &mut [u8], held: usize) -> usize
     ensures { λ r. ⌜ r ≤ length (now (out .entry)) ⌝ }
 {
     output::put_text(out, held, b"bad request")
@@ -27,7 +27,7 @@ fn put_correlation(out: &mut [u8], held: usize, value: u64, least: u64, most: u6
 }
 
 // Document 01's number and values.
-pub fn put_refusal(out: &mut [u8], held: usize, refusal: Refusal) -> usize
+pub(crate) fn put_refusal(out: &mut [u8], held: usize, refusal: Refusal) -> usize
     ensures { λ r. ⌜ r ≤ length (now (out .entry)) ⌝ }
 {
     match refusal {

@@ -8,7 +8,7 @@ ghost use Prim.Native.Nat.{_≤_};
 ghost use lib.ListN.{length};
 
 // The answer to a line, without its newline.
-pub fn answer(
+pub(crate) fn answer(
     line: &[u8],
     bytes: &mut [u8],
     deviations: &mut [u64],

@@ -1,4 +1,5 @@
 -- `replay::answer_all` is safe and ends: the lent slices keep their lengths, and the turns are counted down.
+-- Assumes nothing.
 use mathlib.Core.Path.{_≡_}
 use borrow.Author.Needs.{needs}
 use lib.ListN.{length}

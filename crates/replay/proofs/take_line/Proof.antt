@@ -1,4 +1,5 @@
 -- `replay::take_line` is safe and ends: the line keeps its length, and the block is used up.
+-- Assumes nothing.
 use Prim.Native.Nat.{_-_}
 use mathlib.Core.Path.{_≡_}
 use borrow.Author.Needs.{needs}

@@ -1,4 +1,5 @@
 -- `replay::kind::kind` is safe and ends: the kinds are used up.
+-- Assumes nothing.
 use Prim.Native.Nat.{_-_}
 use borrow.Author.Needs.{needs}
 use Rattle.replay.proofs.kind.kind.Statement.{statement}

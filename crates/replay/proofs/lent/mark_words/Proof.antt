@@ -1,4 +1,5 @@
 -- `replay::lent::mark_words` is safe and ends: what is lent keeps its length, and its entries are used up.
+-- Assumes nothing.
 use Prim.Native.Nat.{_-_}
 use mathlib.Core.Path.{_≡_}
 use native.Mathlib.Omega.{arith}

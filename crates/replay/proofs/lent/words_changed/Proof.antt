@@ -1,4 +1,5 @@
 -- `replay::lent::words_changed` is safe and ends: the entries are used up.
+-- Assumes nothing.
 use Prim.Native.Nat.{_-_}
 use borrow.Author.Needs.{needs}
 use lib.ListN.{length}

@@ -1,4 +1,5 @@
 -- `replay::line::decimal` meets its contract. A digit stands within the line, so the next place fits.
+-- Assumes nothing.
 use Prim.Native.Nat.{_-_, _≤_, _<_}
 use native.Mathlib.Omega.{arith}
 use borrow.Author.Needs.{needs}

@@ -1,4 +1,5 @@
 -- `replay::line::hex` meets its contract. A digit stands within the line, so the next place fits.
+-- Assumes nothing.
 use Prim.Native.Nat.{_+_}
 use mathlib.Core.Path.{_≡_}
 use native.Mathlib.Omega.{arith}

@@ -1,4 +1,5 @@
 -- `replay::line::pairs` meets its contract. Both digits of a pair stand within the line, so the next place fits.
+-- Assumes nothing.
 use Prim.Native.Nat.{_-_, _≤_, _<_}
 use mathlib.Core.Path.{_≡_}
 use native.Mathlib.Omega.{arith}

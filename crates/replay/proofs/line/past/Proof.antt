@@ -1,4 +1,5 @@
 -- `replay::line::past` meets its contract: as many bytes of the line are passed as of the text.
+-- Assumes nothing.
 use Prim.Native.Nat.{_+_, _-_, _≤_}
 use mathlib.Core.Path.{_≡_}
 use borrow.Author.Needs.{needs}

@@ -1,4 +1,5 @@
 -- `replay::mapped::put_number` meets its contract. A number that equals itself is no NaN, so it has bits.
+-- Assumes nothing.
 use Prim.Native.Nat.{ℕ}
 use mathlib.Core.Bool.{true, not}
 use mathlib.Core.Path.{_≡_}

@@ -1,4 +1,5 @@
 -- `replay::output::put_bytes` meets its contract: what is held stays within the output.
+-- Assumes nothing.
 use Prim.Native.Nat.{_-_, _≤_}
 use mathlib.Core.Path.{_≡_}
 use native.Mathlib.Omega.{arith}

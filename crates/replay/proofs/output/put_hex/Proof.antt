@@ -1,4 +1,5 @@
 -- `replay::output::put_hex` meets its contract: what is held stays within the output.
+-- Assumes nothing.
 use Prim.Native.Nat.{_≤_}
 use mathlib.Core.Path.{_≡_}
 use borrow.Author.Needs.{needs}

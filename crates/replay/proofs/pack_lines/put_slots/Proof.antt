@@ -1,4 +1,5 @@
 -- `replay::pack_lines::put_slots` meets its contract: what is held stays within the output, and the slots are used up.
+-- Assumes nothing.
 use Prim.Native.Nat.{_-_, _≤_}
 use mathlib.Core.Path.{_≡_}
 use borrow.Author.Needs.{needs}

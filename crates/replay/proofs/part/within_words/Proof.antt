@@ -1,4 +1,5 @@
 -- `replay::part::within_words` meets its contract.
+-- Assumes nothing.
 use native.Mathlib.Omega.{arith}
 use Rattle.io.proofs.Counting.{counts}
 use Rattle.replay.proofs.part.within_words.Statement.{statement}
