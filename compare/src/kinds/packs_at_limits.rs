@@ -94,7 +94,7 @@ pub fn every_size() -> Vec<Vec<u8>> {
     ];
     let mut random = Random::new(1);
     let mut packs = Vec::new();
-    for n in [9, 17, 64, 255, 256, 257, (1 << 32) - 1] {
+    for n in [3, 9, 17, 64, 255, 256, 257, (1 << 32) - 1] {
         for ((cf, clen, slen), cs) in layouts.into_iter().flat_map(|of| [(of, false), (of, true)]) {
             let control = Control::of(cs, cf, clen, slen);
             packs.extend(cut_at_ends(&mut random, n, control));
