@@ -1,14 +1,12 @@
 -- Laws of an order of rules: `next`, and what holds where every rule was passed.
 -- Assumes nothing.
-use mathlib.Core.Path.{_≡_, ap}
+use mathlib.Core.Path.{_≡_}
 use mathlib.Core.Bool.{Bool, true, false}
 use mathlib.Core.List.{List}
-use mathlib.Core.Logic.{_↔_, by-cases}
 use Prim.Native.Nat.{ℕ}
-use native.Mathlib.Decide.{ℕ-discrete}
 use native.Mathlib.Omega.{arith}
 use lib.Dec.{T, eqb, ltb, ltb→lt}
-use borrow.Author.Tests.{eqb-true, eqb-false, ne-eqb}
+use borrow.Author.Tests.{eqb-false}
 use Rattle.answers.specs.Table.{Entry, Answer, answer, pick, passes, next}
 use Rattle.answers.proofs.Rules.{picked}
 
@@ -18,16 +16,6 @@ none a = eqb (a .number) 0
 -- the next rule counts exactly where this one refuses nothing
 pub next-passed : (a b : Answer) → a .number ≡ 0 → next a b ≡ b
 next-passed a b z = rw z
-
-pub next-passes : (a b : Answer) → (next a b ≡ passes) ↔ ((a .number ≡ 0) × (b ≡ passes))
-next-passes a b = (
-  picked (λ x. x ≡ passes → (a .number ≡ 0) × (b ≡ passes)) (none a) b a (λ t e. (eqb-true (a .number) 0 t, e))
-      (λ f e. absurd (eqb-false (a .number) 0 f (ap (λ (x : Answer). x .number) e))),
-  λ p. rw (p .0, p .1),
-)
-
-pub next-next : (a b c : Answer) → next (next a b) c ≡ next a (next b c)
-next-next a b c = by-cases (ℕ-discrete (a .number) 0) (λ z. rw z) (λ f. simp (ne-eqb (a .number) 0 f))
 
 -- what an answer says where it refuses nothing
 pub record Says (P : Answer → Type 0) (a : Answer) : Type 0 where

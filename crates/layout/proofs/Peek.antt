@@ -19,9 +19,6 @@ use Rattle.layout.specs.Listed.{headerOf, peeked}
 use Rattle.answers.proofs.Next.{Says, IsRule, rules, next-passed}
 
 -- a rule whose number is 0 passes
-pub head-rule : (bytes : List ℕ) → IsRule (headRules bytes)
-head-rule bytes = search rules
-
 pub size-rule : (n R : ℕ) (k : ParseControl) → IsRule (sizeRules n R k)
 size-rule n R k = search rules depth 7
 
