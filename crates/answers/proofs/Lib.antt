@@ -3,3 +3,5 @@ pub mod OneToOne
 pub mod Lent
 pub mod Rules
 pub mod Next
+pub mod Stored
+pub mod Joined

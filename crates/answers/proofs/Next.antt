@@ -1,6 +1,6 @@
 -- Laws of an order of rules: `next`, and what holds where every rule was passed.
 -- Assumes nothing.
-use mathlib.Core.Path.{_≡_}
+use mathlib.Core.Path.{_≡_, refl, sym}
 use mathlib.Core.Bool.{Bool, true, false}
 use mathlib.Core.List.{List}
 use Prim.Native.Nat.{ℕ}
@@ -8,6 +8,11 @@ use native.Mathlib.Omega.{arith}
 use lib.Dec.{T, eqb, ltb, ltb→lt}
 use borrow.Author.Tests.{eqb-false}
 use Rattle.answers.specs.Table.{Entry, Answer, answer, pick, passes, next}
+use Rattle.answers.specs.Listed.{listed, checked}
+use Rattle.answers.specs.declared.Check.{Check}
+use Rattle.answers.specs.declared.Check.the-variants.{Passes, Refused}
+use Rattle.answers.specs.declared.Refusal.{Refusal}
+use Rattle.answers.proofs.OneToOne.{refused-not-done, done-not-refused}
 use Rattle.answers.proofs.Rules.{picked}
 
 abbrev none : Answer → Bool
@@ -40,3 +45,14 @@ pub ruleset rules = (says-passes, says-refused, says-pick, says-next)
 -- an answer that refuses nothing carries nothing
 abbrev pub IsRule : Answer → Type 0
 IsRule = Says (λ a. a ≡ passes)
+
+-- a check that refuses ends an order of rules, and one that passes goes on to the next
+module _ {k : Check} (a b : Answer) (e : checked k ≡ a) where
+  pub stops : {r : Refusal} → k ≡ Refused r → checked k ≡ next a b
+  stops {r} h = let f : listed r ≡ a = rw h at e in rw (h, ← f, refused-not-done r)
+
+  pub goes : k ≡ Passes → next a b ≡ b
+  goes h = let f : passes ≡ a = rw h at e in rw (← f)
+
+pub never-refused : {k : Check} {r : Refusal} → checked k ≡ passes → k ≡ Refused r → ⊥
+never-refused {r = r} e h = done-not-refused passes r refl (sym (rw h at e))

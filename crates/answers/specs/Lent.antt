@@ -17,3 +17,8 @@ leaves a front lent = pick (eqb (a .number) 0) (over front lent) lent
 abbrev pub tab : ℕ → (ℕ → ℕ) → List ℕ
 tab zero f = []
 tab (suc n) f = tab n f ++ (f n ∷ [])
+
+-- the lists that f gives of 0 to n-1, one behind the other
+abbrev pub joined : ℕ → (ℕ → List ℕ) → List ℕ
+joined zero f = []
+joined (suc n) f = joined n f ++ f n

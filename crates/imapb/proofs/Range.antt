@@ -1,7 +1,8 @@
 -- A number lies from -1 to 1 exactly where its bits without the sign are at most those of 1.
 -- Assumes nothing.
-use mathlib.Core.Path.{_≡_, refl, sym}
-use mathlib.Core.Bool.{Bool, true, false, _&&_, _||_, cond}
+use mathlib.Core.Path.{_≡_, refl, sym, ap}
+use mathlib.Core.Bool.{Bool, true, false, not, _&&_, _||_, cond}
+use mathlib.Core.List.{[], _∷_}
 use mathlib.Core.Logic.{inl, inr}
 use Prim.Native.Nat.{ℕ, zero, suc, _+_, _-_, _*_, _/_, _%_, _^_, _≤_, _<_}
 use native.Mathlib.Nat.{lt-of-le-of-lt, le-trans, le-of-eq, mul-le-mul-right, mul-lt-mul-of-pos-right, eq-or-lt-of-le}
@@ -10,12 +11,19 @@ use borrow.Author.Tests.{lt-ltb, le-ltb, eq-eqb, ne-eqb}
 use lib.Dec.{T, leb, ltb, eqb, lit<, lit≤}
 use lib.IntN.{ℤ}
 use lib.Pow.{pow-add, pow-pos, pow-mono}
-use lib.Ieee.{Float, nan, inf, fin, binary64, up, down, ofFields, ofBits, isNan, le}
+use lib.Ieee.{Float, nan, inf, fin, binary64, up, down, ofFields, ofBits, toBits, isNan, le}
 use lib.Ieee.Exact.{HasValue}
 use lib.Ieee.Fits.{down-pos}
 use lib.Ieee.Order.{transfer}
 use Rattle.numbers.proofs.Patterns.{subnormal-value, normal-value}
-use Rattle.imapb.specs.Mapping.{one, inRange}
+use Rattle.answers.specs.Table.{Answer, answer, bits64, pick, passes}
+use Rattle.answers.specs.Listed.{listed, checked}
+use Rattle.answers.specs.declared.Check.{Check}
+use Rattle.answers.specs.declared.Check.the-variants.{Passes, Refused}
+use Rattle.answers.specs.declared.Refusal.{Refusal}
+use Rattle.answers.proofs.OneToOne.{done-not-refused}
+use Rattle.imapb.specs.Mapping.{one, minusOne, inRange}
+use Rattle.imapb.specs.Tables.{rangeRule}
 
 pub one-is : ofBits binary64 0x3ff0000000000000 ≡ one
 unfolding ofBits
@@ -111,3 +119,22 @@ module _ (b : ℕ) where
   pub out-of-range : 0x3ff0000000000000 < b % 2 ^ 63 → inRange (ofBits binary64 b) ≡ false
   unfolding ofBits
   out-of-range h = fields-out (leb (2 ^ 63) b) (b % 2 ^ 52) (omega arith) (b % 2 ^ 63 / 2 ^ 52) (omega arith) (omega arith)
+
+-- ---- what the rule of the range tells of a number
+abbrev outside : ℕ → Answer
+outside v = answer 3 (bits64 v ∷ bits64 (toBits binary64 minusOne) ∷ bits64 (toBits binary64 one) ∷ [])
+
+module _ (v : ℕ) {k : Check} (e : checked k ≡ rangeRule v) where
+  pub range-passed : k ≡ Passes → inRange (ofBits binary64 v) ≡ true
+  range-passed h = go (inRange (ofBits binary64 v)) (rw h at e)
+    where
+      go : (b : Bool) → passes ≡ pick (not b) (outside v) passes → b ≡ true
+      go true e = refl
+      go false e = absurd (let z = ap (λ (a : Answer). a .number) e in omega arith)
+
+  pub range-refused : {r : Refusal} → k ≡ Refused r → inRange (ofBits binary64 v) ≡ false
+  range-refused {r} h = go (inRange (ofBits binary64 v)) (rw h at e)
+    where
+      go : (b : Bool) → listed r ≡ pick (not b) (outside v) passes → b ≡ false
+      go true e = absurd (done-not-refused passes r refl (sym e))
+      go false e = refl

@@ -5,14 +5,16 @@ use mathlib.Core.List.{List, [], _∷_}
 use lib.Dec.{leb, ltb, eqb}
 use lib.ListN.{length}
 use lib.Ieee.{binary64, ofBits, toBits}
-use Rattle.answers.specs.Table.{Answer, answer, bits64, wholes, pick}
+use Rattle.answers.specs.Table.{Answer, answer, bits64, wholes, pick, passes, next}
 use Rattle.answers.specs.Listed.{listed}
 use Rattle.numbers.specs.Words.{wordOf}
 use Rattle.imapb.specs.declared.special.ImapbSpecial.{ImapbSpecial}
 use Rattle.imapb.specs.declared.decode.DecodedImapb.{DecodedImapb}
 use Rattle.imapb.specs.declared.decode.ImapbRead.{ImapbRead}
 use Rattle.imapb.specs.declared.decode.ImapbRead.the-variants.{Done, Refused}
-use Rattle.imapb.specs.Mapping.{one, minusOne, inRange}
+use Rattle.imapb.specs.declared.encode.ImapbCode.{ImapbCode}
+use Rattle.imapb.specs.declared.encode.ImapbCode.the-variants as imapb
+use Rattle.imapb.specs.Mapping.{one, minusOne, codeOf, inRange}
 use Rattle.imapb.specs.Special.{payload, reading}
 
 -- done carries what the code reads as
@@ -34,12 +36,20 @@ imapbRead L bytes =
     (pick (not (eqb (length bytes) L)) (refused (answer 2 (wholes (L ∷ length bytes ∷ []))))
     (reads (reading L (wordOf bytes))))
 
--- v by its bits
+-- v, by its bits, is NaN, infinite or outside -1 to 1: 3 with it, -1, 1
+abbrev pub rangeRule : ℕ → Answer
+rangeRule v =
+    pick (not (inRange (ofBits binary64 v))) (answer 3 (bits64 v ∷ bits64 (toBits binary64 minusOne) ∷ bits64 (toBits binary64 one) ∷ [])) passes
+
+-- the code alone, where there is one
+abbrev pub imapbCode : ℕ → ℕ → ImapbCode
+imapbCode L v = pick (supported L && inRange (ofBits binary64 v)) (imapb.Of (codeOf L (ofBits binary64 v))) imapb.Nothing
+
 abbrev pub imapbWritten : ℕ → ℕ → ℕ → Answer
 imapbWritten L v room =
     pick (not (supported L)) (answer 4 (wholes (L ∷ [])))
     (pick (ltb room L) (answer 5 (wholes (L ∷ room ∷ [])))
-    (pick (not (inRange (ofBits binary64 v))) (answer 3 (bits64 v ∷ bits64 (toBits binary64 minusOne) ∷ bits64 (toBits binary64 one) ∷ []))
+    (next (rangeRule v)
     (answer 0 (wholes (L ∷ [])))))
 
 abbrev pub specialWritten : ℕ → ImapbSpecial → ℕ → Answer

@@ -25,17 +25,6 @@ use Rattle.reader.specs.Numbers.{deviationNumber, correlationNumber}
 use Rattle.reader.specs.Rules.{deviationFormat, codeFormat, codesRule, ruleH, ruleJ}
 use Rattle.reader.proofs.InTurn.{Format, in-turn}
 
--- a check that refuses ends an order of rules, and one that passes goes on to the next
-module _ {k : Check} (a b : Answer) (e : checked k ≡ a) where
-  pub stops : {r : Refusal} → k ≡ Refused r → checked k ≡ next a b
-  stops {r} h = let f : listed r ≡ a = rw h at e in rw (h, ← f, refused-not-done r)
-
-  pub goes : k ≡ Passes → next a b ≡ b
-  goes h = let f : passes ≡ a = rw h at e in rw (← f)
-
-pub never-refused : {k : Check} {r : Refusal} → checked k ≡ passes → k ≡ Refused r → ⊥
-never-refused {r = r} e h = done-not-refused passes r refl (sym (rw h at e))
-
 -- ---- rule i), as the reader tests it
 module _ (c : ParseControl) (present left : ℕ) where
   pub codes-all : c .cs ≡ false → passes ≡ codesRule c present left

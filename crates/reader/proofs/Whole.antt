@@ -29,7 +29,7 @@ use Rattle.reader.specs.Elements.{headOf, deviations, correlations, pres
 use Rattle.reader.specs.Fill.{Within}
 use Rattle.reader.specs.Listed.{readListed, readRefused}
 use Rattle.reader.specs.Rules.{elementRules, roomRules, done, readAnswer}
-use Rattle.reader.proofs.Decided.{stops}
+use Rattle.answers.proofs.Next.{stops}
 
 -- ---- a header that was not read: 1
 head-refused : (t u : Bool) → eqb (next (pick t passes (answer 1 [])) (pick u (answer 1 []) passes) .number) 0 ≡ false

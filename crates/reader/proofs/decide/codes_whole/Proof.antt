@@ -5,7 +5,8 @@ use native.Mathlib.Omega.{arith}
 use Rattle.answers.specs.Table.{next}
 use Rattle.answers.specs.Listed.{checked}
 use Rattle.reader.specs.Rules.{ruleI, ruleJ, ruleK}
-use Rattle.reader.proofs.Decided.{stops, goes, by-first-code}
+use Rattle.answers.proofs.Next.{stops, goes}
+use Rattle.reader.proofs.Decided.{by-first-code}
 use Rattle.reader.proofs.Held.{few, few-codes, few-deviations, count-bytes}
 use borrow.Author.Needs.{needs}
 use Rattle.reader.proofs.decide.codes_whole.Statement.{statement}

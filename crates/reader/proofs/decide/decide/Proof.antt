@@ -2,7 +2,7 @@
 -- Assumes nothing.
 use mathlib.Core.Path.{sym, _∙_}
 use Rattle.reader.specs.Rules.{ruleH}
-use Rattle.reader.proofs.Decided.{stops, goes}
+use Rattle.answers.proofs.Next.{stops, goes}
 use borrow.Author.Needs.{needs}
 use Rattle.reader.proofs.decide.decide.Statement.{statement}
 use Rattle.reader.proofs.decide.decide.Tie as tie

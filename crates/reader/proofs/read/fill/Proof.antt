@@ -1,7 +1,7 @@
 -- `read::fill` meets its contract: both passes find all that they read.
 -- Assumes nothing.
 use lib.ListN.{length}
-use Rattle.reader.proofs.Decided.{never-refused}
+use Rattle.answers.proofs.Next.{never-refused}
 use Rattle.reader.proofs.Held.{Held, held, Rooms, rooms}
 use borrow.Author.Needs.{needs}
 use Rattle.reader.proofs.read.fill.Statement.{statement}
