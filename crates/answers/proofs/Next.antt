@@ -6,7 +6,7 @@ use mathlib.Core.List.{List}
 use Prim.Native.Nat.{ℕ}
 use native.Mathlib.Omega.{arith}
 use lib.Dec.{T, eqb, ltb, ltb→lt}
-use borrow.Author.Tests.{eqb-false}
+use borrow.Author.Tests.{eqb-true, eqb-false}
 use Rattle.answers.specs.Table.{Entry, Answer, answer, pick, passes, next}
 use Rattle.answers.specs.Listed.{listed, checked}
 use Rattle.answers.specs.declared.Check.{Check}
@@ -21,6 +21,12 @@ none a = eqb (a .number) 0
 -- the next rule counts exactly where this one refuses nothing
 pub next-passed : (a b : Answer) → a .number ≡ 0 → next a b ≡ b
 next-passed a b z = rw z
+
+-- where an order of rules refuses nothing, no rule does
+pub next-zero : (a b : Answer) → next a b .number ≡ 0 → (a .number ≡ 0) × (b .number ≡ 0)
+next-zero a b =
+    picked (λ x. x .number ≡ 0 → (a .number ≡ 0) × (b .number ≡ 0)) (eqb (a .number) 0) b a
+    (λ t e. (eqb-true (a .number) 0 t, e)) (λ f e. absurd (eqb-false (a .number) 0 f e))
 
 -- what an answer says where it refuses nothing
 pub record Says (P : Answer → Type 0) (a : Answer) : Type 0 where

@@ -8,7 +8,7 @@ use lib.Ieee.{binary64, ofBits}
 use Rattle.answers.specs.OneAnswer.{OneResult, OneAnswer}
 use Rattle.answers.specs.Lent.{leaves}
 use Rattle.answers.specs.Listed.{listed}
-use Rattle.answers.proofs.OneToOne.{listed-one, writer-one}
+use Rattle.answers.proofs.OneToOne.{listed-one, writer-one, checked-one}
 use Rattle.numbers.specs.Words.{bytesOf}
 use Rattle.imapb.specs.declared.decode.ImapbRead.{ImapbRead}
 use Rattle.imapb.specs.declared.decode.ImapbRead.the-variants.{Done, Refused}
@@ -16,6 +16,8 @@ use Rattle.imapb.specs.Mapping.{codeOf}
 use Rattle.imapb.specs.Special.{specialCode}
 use Rattle.imapb.specs.Tables.{imapbListed}
 use Rattle.imapb.proofs.decode.decode_imapb.Reads as decode-imapb
+use Rattle.imapb.proofs.encode.check_range.Reads as check-range
+use Rattle.imapb.proofs.encode.imapb_code.Reads as imapb-code
 use Rattle.imapb.proofs.encode.encode_imapb.Reads as encode-imapb
 use Rattle.imapb.proofs.special.encode_imapb_special.Reads as encode-imapb-special
 
@@ -28,6 +30,12 @@ read-one (Refused r) (Refused r′) e = let l : listed r ≡ listed r′ = cc in
 
 pub decode-imapb-one : OneResult decode-imapb.Learnt
 decode-imapb-one κs a r r′ s s′ p q = read-one r r′ (p ∙ sym q)
+
+pub check-range-one : OneResult check-range.Learnt
+check-range-one κs a r r′ s s′ p q = checked-one r r′ (p ∙ sym q)
+
+pub imapb-code-one : OneResult imapb-code.Learnt
+imapb-code-one κs a r r′ s s′ p q = p ∙ sym q
 
 pub encode-imapb-one : OneAnswer encode-imapb.Learnt (λ κs s. now (s .1 .1 .0))
 encode-imapb-one κs a r r′ s s′ p q =

@@ -1,6 +1,6 @@
 -- A number lies from -1 to 1 exactly where its bits without the sign are at most those of 1.
 -- Assumes nothing.
-use mathlib.Core.Path.{_≡_, refl, sym, ap}
+use mathlib.Core.Path.{_≡_, refl, sym, ap, _∙_}
 use mathlib.Core.Bool.{Bool, true, false, not, _&&_, _||_, cond}
 use mathlib.Core.List.{[], _∷_}
 use mathlib.Core.Logic.{inl, inr}
@@ -124,13 +124,17 @@ module _ (b : ℕ) where
 abbrev outside : ℕ → Answer
 outside v = answer 3 (bits64 v ∷ bits64 (toBits binary64 minusOne) ∷ bits64 (toBits binary64 one) ∷ [])
 
+-- a number that the rule does not refuse lies in the range
+pub range-told : (v : ℕ) → rangeRule v .number ≡ 0 → inRange (ofBits binary64 v) ≡ true
+range-told v e = go (inRange (ofBits binary64 v)) e
+  where
+    go : (b : Bool) → pick (not b) (outside v) passes .number ≡ 0 → b ≡ true
+    go true e = refl
+    go false e = absurd (omega arith)
+
 module _ (v : ℕ) {k : Check} (e : checked k ≡ rangeRule v) where
   pub range-passed : k ≡ Passes → inRange (ofBits binary64 v) ≡ true
-  range-passed h = go (inRange (ofBits binary64 v)) (rw h at e)
-    where
-      go : (b : Bool) → passes ≡ pick (not b) (outside v) passes → b ≡ true
-      go true e = refl
-      go false e = absurd (let z = ap (λ (a : Answer). a .number) e in omega arith)
+  range-passed h = range-told v (ap (λ (a : Answer). a .number) (sym e ∙ ap checked h))
 
   pub range-refused : {r : Refusal} → k ≡ Refused r → inRange (ofBits binary64 v) ≡ false
   range-refused {r} h = go (inRange (ofBits binary64 v)) (rw h at e)

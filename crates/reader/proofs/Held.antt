@@ -12,7 +12,7 @@ use lib.Dec.{eqb, ltb}
 use lib.ListN.{length}
 use Rattle.answers.specs.Table.{Answer, answer, pick, passes, next}
 use Rattle.answers.proofs.Rules.{picked}
-use Rattle.answers.proofs.Next.{Says, rules}
+use Rattle.answers.proofs.Next.{next-zero, Says, rules}
 use Rattle.layout.specs.Size.{maxRows, maxSlots}
 use Rattle.layout.specs.Triangle.{slotsOf}
 use Rattle.layout.proofs.RowByRow.{few-slots}
@@ -47,11 +47,6 @@ module _ {bytes : List ℕ} {h : Head} (w : Within bytes h) where
       mul-le-mul-right (h .control .clen) l
 
 -- ---- what elements that pass in turn are: whole, in a format that is read
-next-zero : (a b : Answer) → next a b .number ≡ 0 → (a .number ≡ 0) × (b .number ≡ 0)
-next-zero a b =
-    picked (λ x. x .number ≡ 0 → (a .number ≡ 0) × (b .number ≡ 0)) (eqb (a .number) 0) b a
-    (λ t e. (eqb-true (a .number) 0 t, e)) (λ f e. absurd (eqb-false (a .number) 0 f e))
-
 passed : {format : Answer} → Format format → format .number ≡ 0 → format ≡ passes
 passed (inl e) z = e
 passed {format} (inr e) z = absurd (eqb-false (format .number) 0 e z)

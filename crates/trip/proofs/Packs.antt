@@ -1,14 +1,15 @@
--- P1 to P11: what the reader's definition gives of each, computed.
+-- P1 to P12: what the reader's and the writer's definitions give of each, computed.
 -- Assumes nothing.
 use mathlib.Core.Path.{_≡_, refl}
-use lib.Ieee.{ofBits, toBits, ofInt, add, sub, div, round, nanBits}
-use Rattle.numbers.specs.BerOid.{oidRead}
-use Rattle.numbers.specs.Words.{wordOf}
+use lib.Ieee.{ofBits, toBits, ofInt, toUnsigned, add, sub, mul, div, le, round, nanBits}
+use Rattle.numbers.specs.BerOid.{oidRead, oidBytes}
+use Rattle.numbers.specs.Words.{wordOf, bytesOf}
 use Rattle.numbers.specs.Conversions.{nearest, converted}
-use Rattle.imapb.specs.Mapping.{value}
+use Rattle.imapb.specs.Mapping.{code, value}
 use Rattle.layout.specs.Triangle.{slotsOf}
+use Rattle.writer.specs.Pack.{formBytes}
 use Rattle.trip.specs.Packs.{pTable, outcomes, expected}
 
 pub packs-right : outcomes pTable ≡ expected pTable
-unfolding oidRead wordOf slotsOf converted nearest value ofBits toBits ofInt add sub div round nanBits
+unfolding oidRead oidBytes wordOf bytesOf slotsOf converted nearest code value formBytes ofBits toBits ofInt toUnsigned add sub mul div le round nanBits
 packs-right = refl

@@ -1,11 +1,14 @@
--- Document 01, "Packs and values on both sides of each limit": the marked ones that are read, P1 to P11.
+-- Document 01, "Packs and values on both sides of each limit": the marked ones, P1 to P12.
 use Prim.Native.Nat.{ℕ}
 use mathlib.Core.List.{List, [], _∷_, _++_}
 use lib.Dec.{eqb}
+use lib.ListN.{length}
 use Rattle.answers.specs.Table.{Answer, answer, wholes, pick}
 use Rattle.layout.specs.Size.{maxRows, maxSlots}
 use Rattle.reader.specs.Elements.{headOf, deviations, correlations, presence}
 use Rattle.reader.specs.Rules.{readAnswer}
+use Rattle.writer.specs.Pack.{packBytes}
+use Rattle.writer.specs.Rules.{writeAnswer}
 
 -- what reading gives: the answer, and where it is done the three lists
 pub record Outcome : Type 0 where
@@ -43,12 +46,10 @@ one = 0x3FF0000000000000
 abbrev half : ℕ
 half = 0x3FE0000000000000
 
-pub record Row : Type 0 where
-  pub bytes : List ℕ
-  pub gives : Outcome
-
-abbrev row : List ℕ → Outcome → Row
-row bytes gives = record { bytes = bytes; gives = gives }
+-- a pack that is read, and what it gives; or deviations, correlations and Clen that are written, and their pack
+pub data Row : Type 0 where
+  reads : List ℕ → Outcome → Row
+  writes : List ℕ → List ℕ → ℕ → List ℕ → Row
 
 -- a pack of two rows with one correlation: its value, and whether it is present
 abbrev pair : ℕ → ℕ → Outcome
@@ -56,24 +57,37 @@ pair c p = done 2 2 1 deviations12 (c ∷ []) (p ∷ [])
 
 abbrev pub pTable : List Row
 pTable =
-    row (0x02 ∷ 0x91 ∷ 0x04 ∷ (D ++ (0x60 ∷ []))) (pair half 1)
-    ∷ row (0x02 ∷ 0x91 ∷ 0x04 ∷ (D ++ (0x80 ∷ []))) (pair one 1)
-    ∷ row (0x02 ∷ 0x91 ∷ 0x04 ∷ (D ++ (0x81 ∷ []))) (pair 0 1)
-    ∷ row (0x02 ∷ 0x91 ∷ 0x04 ∷ (D ++ (0xC8 ∷ []))) (pair 0 1)
-    ∷ row (0x02 ∷ 0x41 ∷ (D ++ (0x60 ∷ []))) (pair half 1)
-    ∷ row (0x02 ∷ 0x80 ∷ 0x00 ∷ []) (refused (answer 2 (wholes (0 ∷ 0 ∷ []))))
-    ∷ row (0x82 ∷ 0x01 ∷ 0x80 ∷ 0x04 ∷ []) (refused (answer 3 (wholes (257 ∷ 0 ∷ 256 ∷ []))))
-    ∷ row (0x82 ∷ 0x00 ∷ 0x80 ∷ 0x04 ∷ []) (refused (answer 1 []))
-    ∷ row (0x00 ∷ 0x90 ∷ 0x04 ∷ []) (done 0 0 0 [] [] [])
-    ∷ row (0x02 ∷ 0xA0 ∷ 0x04 ∷ 0x80 ∷ D) (pair 0 0)
-    ∷ row (0x02 ∷ 0xBF ∷ 0x04 ∷ 0x00 ∷ D) (pair 0 0)
+    reads (0x02 ∷ 0x91 ∷ 0x04 ∷ (D ++ (0x60 ∷ []))) (pair half 1)
+    ∷ reads (0x02 ∷ 0x91 ∷ 0x04 ∷ (D ++ (0x80 ∷ []))) (pair one 1)
+    ∷ reads (0x02 ∷ 0x91 ∷ 0x04 ∷ (D ++ (0x81 ∷ []))) (pair 0 1)
+    ∷ reads (0x02 ∷ 0x91 ∷ 0x04 ∷ (D ++ (0xC8 ∷ []))) (pair 0 1)
+    ∷ reads (0x02 ∷ 0x41 ∷ (D ++ (0x60 ∷ []))) (pair half 1)
+    ∷ reads (0x02 ∷ 0x80 ∷ 0x00 ∷ []) (refused (answer 2 (wholes (0 ∷ 0 ∷ []))))
+    ∷ reads (0x82 ∷ 0x01 ∷ 0x80 ∷ 0x04 ∷ []) (refused (answer 3 (wholes (257 ∷ 0 ∷ 256 ∷ []))))
+    ∷ reads (0x82 ∷ 0x00 ∷ 0x80 ∷ 0x04 ∷ []) (refused (answer 1 []))
+    ∷ reads (0x00 ∷ 0x90 ∷ 0x04 ∷ []) (done 0 0 0 [] [] [])
+    ∷ reads (0x02 ∷ 0xA0 ∷ 0x04 ∷ 0x80 ∷ D) (pair 0 0)
+    ∷ reads (0x02 ∷ 0xBF ∷ 0x04 ∷ 0x00 ∷ D) (pair 0 0)
+    ∷ writes deviations12 (0 ∷ []) 1 (0x02 ∷ 0xB1 ∷ 0x04 ∷ 0x00 ∷ D)
     ∷ []
 
--- what reading gives of each row, and what it is to give
-abbrev pub outcomes : List Row → List Outcome
-outcomes [] = []
-outcomes (r ∷ rs) = outcome (r .bytes) ∷ outcomes rs
+-- what a row comes to, with room for just that pack where it is written, and what it is to come to
+pub data Result : Type 0 where
+  read : Outcome → Result
+  wrote : Answer → List ℕ → Result
 
-abbrev pub expected : List Row → List Outcome
+abbrev pub comesTo : Row → Result
+comesTo (reads bytes gives) = read (outcome bytes)
+comesTo (writes ds cs L pack) = wrote (writeAnswer ds cs L (length pack)) (packBytes ds cs L)
+
+abbrev pub isTo : Row → Result
+isTo (reads bytes gives) = read gives
+isTo (writes ds cs L pack) = wrote (answer 0 (wholes (length pack ∷ []))) pack
+
+abbrev pub outcomes : List Row → List Result
+outcomes [] = []
+outcomes (r ∷ rs) = comesTo r ∷ outcomes rs
+
+abbrev pub expected : List Row → List Result
 expected [] = []
-expected (r ∷ rs) = r .gives ∷ expected rs
+expected (r ∷ rs) = isTo r ∷ expected rs

@@ -1,0 +1,10 @@
+pub mod Checked
+pub mod Coded
+pub mod Head
+pub mod Lengths
+pub mod OneAnswer
+pub mod Packed
+pub mod Places
+pub mod Runs
+pub mod Sparse
+pub mod Whole

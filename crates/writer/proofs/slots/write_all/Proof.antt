@@ -1,0 +1,75 @@
+-- `slots::write_all` meets its contract: each turn writes the next correlation's code behind those before it.
+-- Assumes nothing.
+use mathlib.Core.Bool.{false}
+use Prim.Native.Nat.{_+_, _-_, _≤_}
+use native.Mathlib.Omega.{arith}
+use lib.ListN.{length}
+use Rattle.numbers.proofs.Bytes.{length-bytes}
+use Rattle.writer.specs.Pack.{codeBytes}
+use Rattle.writer.proofs.Runs.{Run, run-none, run-room, run-more, run-done}
+use Rattle.writer.proofs.slots.write_all.Statement.{statement}
+use Rattle.writer.proofs.slots.write_all.Tie as tie
+
+abbrev Inv-loop : tie.InvT-loop
+Inv-loop correlations clen at out₀ next₀ k₀ out next k = Run (length correlations) (codeBytes false correlations clen) at out₀ k out next
+
+abbrev μ-loop : tie.MeasureT-loop
+μ-loop correlations clen at out₀ next₀ k₀ out next k = length correlations - k
+
+loop-holds : tie.Need-loop-holds Inv-loop μ-loop
+loop-holds c = run-none (c .before .before .pre .2)
+
+mul-put-slot : tie.Need-mul-put-slot Inv-loop μ-loop
+mul-put-slot c = omega arith
+
+shared-slice-read-put-slot : tie.Need-shared-slice-read-put-slot Inv-loop μ-loop
+shared-slice-read-put-slot c = omega arith
+
+-- the next code has room
+room : (c : tie.In-loop Inv-loop μ-loop)
+    → c .before .loop .next + c .before .before .before .before .args .clen ≤ length (c .before .loop .out)
+room c = rw length-bytes at (run-room (c .before .loop .inv) (c .loop-test .taken))
+
+put-slot-requires : tie.Need-put-slot-requires Inv-loop μ-loop
+put-slot-requires c κs =
+    let s = c .before .before .before .before .before .before in
+    (s .pre .0, s .pre .1 (c .before .before .before .loop .k), room (c .before .before))
+
+add-next : tie.Need-add-next Inv-loop μ-loop
+add-next c = omega (arith, room (c .before .before .before .before .before))
+
+add-k : tie.Need-add-k Inv-loop μ-loop
+add-k c = omega arith
+
+loop-less : tie.Need-loop-less Inv-loop μ-loop
+loop-less c = omega arith
+
+loop-again : tie.Need-loop-again Inv-loop μ-loop
+loop-again c =
+    let w = c .before .before in
+    let t = w .before .before .before in
+    let l = t .before .loop in
+    run-more (l .inv) (t .loop-test .taken) (w .put-slot .ensures) (rw length-bytes)
+
+same-length : tie.Need-same-length Inv-loop μ-loop
+same-length c = c .before .loop .inv .long
+
+returns : tie.Need-returns Inv-loop μ-loop
+returns c = run-done (c .before .loop .inv) (c .loop-test .left)
+
+pub write-all-spec : {M : Type 1} → statement M
+write-all-spec =
+    tie.close
+    (tie.spec
+    Inv-loop
+    μ-loop
+    loop-holds
+    mul-put-slot
+    shared-slice-read-put-slot
+    put-slot-requires
+    add-next
+    add-k
+    loop-less
+    loop-again
+    same-length
+    returns)

@@ -1,0 +1,34 @@
+-- `slots::write_slots` meets its contract: each branch has the plan's form.
+-- Assumes nothing.
+use borrow.Author.Needs.{needs}
+use Rattle.writer.proofs.slots.write_slots.Statement.{statement}
+use Rattle.writer.proofs.slots.write_slots.Tie as tie
+
+write-sent-requires : tie.Need-write-sent-requires
+write-sent-requires c κs = rw (c .before .if1 .taken) at (c .before .before .before .before .pre)
+
+write-all-requires : tie.Need-write-all-requires
+write-all-requires c κs =
+    let s = c .before .before .before .before in
+    (s .pre .0, s .pre .1, rw (c .before .if1 .left) at (s .pre .4))
+
+same-length : tie.Need-same-length
+same-length c = search needs
+
+returns : tie.Need-returns
+returns c =
+    let w = c .before .before in
+    rw (w .before .before .if1 .taken) (w .write-sent .ensures)
+
+same-length-2 : tie.Need-same-length-2
+same-length-2 c = search needs
+
+returns-2 : tie.Need-returns-2
+returns-2 c =
+    let w = c .before .before in
+    rw (w .before .before .if1 .left) (w .write-all .ensures)
+
+pub write-slots-spec : {M : Type 1} → statement M
+write-slots-spec =
+    tie.close
+    (tie.spec write-sent-requires write-all-requires same-length returns same-length-2 returns-2)

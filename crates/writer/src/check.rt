@@ -1,0 +1,68 @@
+//! What is refused before the pack's length is known: the counts, Clen, and each correlation in turn.
+use crate::zero::zero_of;
+use answers::Check;
+use answers::Refusal;
+use imapb::encode::check_range;
+use layout::pack::SdccFlp;
+use layout::triangle::corr_slots;
+ghost use mathlib.Core.Path.{_≡_};
+ghost use Rattle.answers.specs.Listed.{checked};
+ghost use Rattle.writer.specs.Listed.{countListed, counted, refusedCount};
+ghost use Rattle.writer.specs.Rules.{countRules};
+
+// How many correlations are 0, or the refusal of the first that lies outside.
+pub enum Counted {
+    Zeros(usize),
+    Refused(Refusal),
+}
+
+// N, the count of correlations, Clen.
+pub(crate) fn check_counts(rows: usize, count: usize, clen: usize) -> Check
+    ensures { λ r. ⌜ checked r ≡ countRules rows count clen ⌝ }
+{
+    if SdccFlp::MAX_ROWS < rows as u64 {
+        return Check::Refused(Refusal::TooManyRows { n: rows });
+    }
+    let slots = corr_slots(rows as u32);
+    if count as u64 != slots {
+        return Check::Refused(Refusal::OutOfRange {
+            value: count as u64,
+            least: slots,
+            most: slots,
+        });
+    }
+    if clen < 1 {
+        return Check::Refused(Refusal::UnsupportedImapbLength { length: clen });
+    }
+    if 8 < clen {
+        return Check::Refused(Refusal::UnsupportedImapbLength { length: clen });
+    }
+    Check::Passes
+}
+
+// The refusal that a correlation's check holds.
+fn refused_count(check: Check) -> Counted
+    ensures { λ r. ⌜ r ≡ refusedCount check ⌝ }
+{
+    match check {
+        Check::Passes => Counted::Zeros(0),
+        Check::Refused(refusal) => Counted::Refused(refusal),
+    }
+}
+
+// The one pass that checks and counts.
+pub(crate) fn check_correlations(correlations: &[u64]) -> Counted
+    ensures { λ r. ⌜ countListed r ≡ counted (now (correlations .entry)) ⌝ }
+{
+    let mut zeros: usize = 0;
+    let mut k: usize = 0;
+    while k < correlations.len() {
+        let check = check_range(correlations[k]);
+        let Check::Passes = check else {
+            return refused_count(check);
+        };
+        zeros += zero_of(correlations[k]);
+        k += 1;
+    }
+    Counted::Zeros(zeros)
+}

@@ -1,0 +1,7 @@
+//! The writer of SDCC-FLP packs: `encode_sdcc_flp_mode2`, and the one that takes no Clen.
+mod check;
+mod elements;
+mod plan;
+mod slots;
+pub mod write;
+mod zero;
