@@ -1,1 +1,6 @@
 pub mod Packs
+pub mod Vector
+pub mod Head
+pub mod Found
+pub mod Values
+pub mod Back

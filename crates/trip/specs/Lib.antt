@@ -1,1 +1,4 @@
 pub mod Packs
+pub mod Found
+pub mod Values
+pub mod Back

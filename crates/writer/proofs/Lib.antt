@@ -1,5 +1,6 @@
 pub mod Checked
 pub mod Coded
+pub mod EqualZero
 pub mod Head
 pub mod Lengths
 pub mod OneAnswer

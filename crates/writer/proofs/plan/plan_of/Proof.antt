@@ -1,5 +1,6 @@
 -- `plan::plan_of` meets its contract: within the limits nothing can wrap.
 -- Assumes nothing.
+use mathlib.Core.Bool.{Bool}
 use Prim.Native.Nat.{_+_, _/_, _≤_}
 use native.Mathlib.Nat.{mul-assoc}
 use native.Mathlib.Omega.{arith}
@@ -24,19 +25,19 @@ cast-ber-oid-len c = search needs
 ber-oid-len-requires : tie.Need-ber-oid-len-requires
 ber-oid-len-requires c κs = search needs
 
+-- the form that the numbers ask for
+abbrev form : tie.Start → Bool
+form c = sparseRule (c .args .slots) (c .args .zeros) (c .args .clen)
+
 -- how large each number can be
 short : (c : tie.After-ber-oid-len) → c .ber-oid-len .result ≤ 5
 short c = omega (arith, c .ber-oid-len .ensures, enough (c .before .args .rows) (omega arith) .1)
 
 few : (c : tie.After-vector-length) → c .vector-length .result ≤ (c .before .before .args .slots + 7) / 8
-few c =
-    let a = c .before .before .args in
-    rw (c .vector-length .ensures) (vector-le (sparseRule (a .slots) (a .zeros) (a .clen)) (a .slots))
+few c = let s = c .before .before in rw (c .vector-length .ensures) (vector-le (form s) (s .args .slots))
 
 fewer : (c : tie.After-sent-count) → c .sent-count .result ≤ c .before .before .before .args .slots
-fewer c =
-    let a = c .before .before .before .args in
-    rw (c .sent-count .ensures) (sent-le (sparseRule (a .slots) (a .zeros) (a .clen)) (a .slots) (a .zeros))
+fewer c = let s = c .before .before .before in rw (c .sent-count .ensures) (sent-le (form s) (s .args .slots) (s .args .zeros))
 
 add-vector : tie.Need-add-vector
 add-vector c = omega (arith, short c)

@@ -1,0 +1,119 @@
+-- Reading back what was written: every rule passes, and each list is that of its numbers.
+-- Assumes nothing.
+use mathlib.Core.Path.{_≡_, refl, sym}
+use mathlib.Core.Bool.{Bool, true, false, _&&_, not}
+use mathlib.Core.List.{List, _++_}
+use Prim.Native.Nat.{ℕ, zero, suc, _+_, _-_, _*_, _/_, _≤_, _<_}
+use native.Mathlib.Omega.{arith}
+use lib.Dec.{eqb}
+use lib.ListN.{length}
+use borrow.Author.Tests.{le-leb, le-ltb, ne-eqb}
+use Rattle.answers.specs.Table.{pick, passes}
+use Rattle.answers.specs.Lent.{tab}
+use Rattle.layout.specs.Size.{maxRows, matrixSize, sizeRules, fitRules}
+use Rattle.layout.specs.Triangle.{slotsOf}
+use Rattle.reader.specs.Elements.{presentBefore, headOf, deviationCount}
+use Rattle.reader.specs.Rules.{inTurn, elementRules, roomRules}
+use Rattle.writer.specs.Pack.{element1, element2, formBytes}
+use Rattle.trip.specs.Found.{controlFor, HeadFound, BodyFound}
+use Rattle.trip.specs.Back.{Back}
+use Rattle.trip.proofs.Found.{found}
+use Rattle.trip.proofs.Values.{values-found}
+
+-- lists of equal numbers
+tab-same : (n : ℕ) {f g : ℕ → ℕ} → ((k : ℕ) → k < n → f k ≡ g k) → tab n f ≡ tab n g
+tab-same zero h = refl
+tab-same (suc n) h = rw (tab-same n (λ k l. h k (omega arith)), h n (omega arith))
+
+-- and of an equal count
+tab-is : {m n : ℕ} {f g : ℕ → ℕ} → m ≡ n → ((k : ℕ) → k < n → f k ≡ g k) → tab m f ≡ tab n g
+tab-is {n = n} e h = rw e (tab-same n h)
+
+-- ---- rules that pass
+-- c) to g)
+size-passes : (sparse : Bool) (n R L : ℕ) → n ≤ maxRows → n * 4 ≤ R → (sparse ≡ false → slotsOf n * L ≤ R) → (sparse ≡ true → slotsOf n ≤ 8 * R)
+    → sizeRules n R (controlFor sparse L) ≡ passes
+size-passes true n R L rows d f v = rw (le-ltb maxRows n rows, le-ltb R (n * 4) d, le-ltb (8 * R) (slotsOf n) (v refl))
+size-passes false n R L rows d f v = rw (le-ltb maxRows n rows, le-ltb R (n * 4) d, le-ltb R (slotsOf n * L) (f refl))
+
+-- elements that lie within the bytes
+in-turn : (bytes : List ℕ) (at size n : ℕ) → at + n * size ≤ length bytes → inTurn bytes at size passes n ≡ passes
+in-turn bytes at size zero h = refl
+in-turn bytes at size (suc n) h =
+    rw (in-turn bytes at size n (omega arith), le-ltb (length bytes - (at + n * size)) size (omega arith))
+
+-- a test that fails, whatever stands before it
+fails : (b : Bool) → (b && false) ≡ false
+fails true = refl
+fails false = refl
+
+-- ---- bytes whose elements are found
+module _ (ds cs : List ℕ) (L : ℕ) (sparse : Bool) (rows : length ds ≤ maxRows) (count : length cs ≡ slotsOf (length ds)) (least : 1 ≤ L) (most : L ≤ 8)
+    (bytes : List ℕ) (at : ℕ) (head : HeadFound (length ds) L sparse bytes at) (body : BodyFound ds cs L sparse bytes) where
+  -- N, where element 4 starts, and how many codes element 5 has
+  abbrev n : ℕ
+  n = length ds
+
+  abbrev deviationsFrom : ℕ
+  deviationsFrom = at + pick sparse ((slotsOf n + 7) / 8) 0
+
+  abbrev present : ℕ
+  present = presentBefore bytes at (controlFor sparse L) (slotsOf n)
+
+  -- the elements fill the bytes
+  whole : deviationsFrom + n * 4 + present * L ≡ length bytes
+  whole = rw (head .control, head .size, head .body) at (body .whole)
+
+  -- a) to g)
+  fit-passes : fitRules bytes ≡ passes
+  fit-passes =
+      rw (head .passed, head .control, head .size, head .body)
+      (size-passes sparse n (length bytes - at) L rows (omega (arith, whole))
+      (λ e. omega (arith, rw (e, ne-eqb L 0 (omega arith)) at whole)) (λ e. omega (arith, rw e at whole)))
+
+  -- h) to k)
+  elements-pass : elementRules bytes (headOf bytes) ≡ passes
+  elements-pass =
+      rw (
+        head .control,
+        head .size,
+        head .body,
+        in-turn bytes deviationsFrom 4 n (omega (arith, whole)),
+        le-ltb (length bytes - (deviationsFrom + n * 4)) (present * L) (omega (arith, whole)),
+        le-leb 1 L least,
+        le-leb L 8 most,
+        in-turn bytes (deviationsFrom + n * 4) L present (omega (arith, whole)),
+        whole,
+        le-ltb (length bytes) (length bytes) (omega arith),
+        fails (sparse && not (eqb L 0)),
+      )
+
+  -- l)
+  rooms-pass : (d c p : ℕ) → length ds ≤ d → length cs ≤ c → length cs ≤ p → roomRules (headOf bytes) d c p ≡ passes
+  rooms-pass d c p i j k =
+      rw (head .control, head .size, ← count, le-ltb d (length ds) i, le-ltb c (length cs) j, le-ltb p (length cs) k)
+
+  -- how many numbers each list has
+  rows-found : deviationCount (headOf bytes) ≡ length ds
+  rows-found = rw (head .control, head .size)
+
+  slots-found : slotsOf (matrixSize bytes) ≡ length cs
+  slots-found = rw (head .size) (sym count)
+
+  -- all pass, and the lists are those of the numbers
+  pub back-found : Back ds cs L sparse bytes
+  back-found =
+      let values = values-found ds cs L sparse least most bytes head body in
+      record {
+        answers = λ d c p i j k. rw (fit-passes, elements-pass, rooms-pass d c p i j k, head .control, head .size, ← count);
+        deviations = tab-is rows-found (values .deviations);
+        presence = tab-is slots-found (values .presence);
+        correlations = λ ranged. tab-is slots-found (λ k h. values .correlations k h (ranged k h));
+      }
+
+-- a pack, in either form
+pub back : (ds cs : List ℕ) (L : ℕ) (sparse : Bool) → length ds ≤ maxRows → length cs ≡ slotsOf (length ds) → 1 ≤ L → L ≤ 8
+    → Back ds cs L sparse (formBytes ds cs L sparse)
+back ds cs L sparse rows count least most =
+    let p = found ds cs L sparse rows count least most in
+    back-found ds cs L sparse rows count least most (formBytes ds cs L sparse) (length (element1 (length ds) ++ element2 sparse L)) (p .head) (p .body)
