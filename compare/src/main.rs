@@ -17,6 +17,7 @@ use random::Random;
 use std::env;
 use std::fs;
 use std::io::{self, Write};
+use std::iter::repeat_n;
 use std::path::Path;
 use std::process::{Command, ExitCode, Stdio};
 use std::thread;
@@ -29,10 +30,11 @@ fn at_the_limits() -> Vec<Case> {
     KINDS.iter().flat_map(|kind| (kind.limits)()).collect()
 }
 
-// So many requests, of each kind in turn.
+// So many requests, of each kind its share in turn.
 fn at_random(seed: u64, count: usize) -> Vec<Case> {
     let mut random = Random::new(seed);
-    let kinds = KINDS.iter().cycle().take(count);
+    let turn = KINDS.iter().flat_map(|kind| repeat_n(kind, kind.share));
+    let kinds = turn.cycle().take(count);
     kinds.map(|kind| (kind.random)(&mut random)).collect()
 }
 

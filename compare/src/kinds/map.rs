@@ -9,11 +9,12 @@ pub const KIND: Kind = Kind {
     name: "map",
     limits,
     random,
+    share: 1,
 };
 
-const SIGN: u64 = 1 << 63;
-const ONE: u64 = 0x3FF << 52;
-const INFINITY: u64 = 0x7FF << 52;
+pub const SIGN: u64 = 1 << 63;
+pub const ONE: u64 = 0x3FF << 52;
+pub const INFINITY: u64 = 0x7FF << 52;
 
 fn case(length: usize, room: usize, bits: u64) -> Case {
     let mut lent = lend(room);
@@ -34,7 +35,7 @@ fn case(length: usize, room: usize, bits: u64) -> Case {
 }
 
 // The Rust fixes no bits of a NaN that it hands back: the port hands back those that it was given.
-fn outside(bits: u64, value: f64, min: f64, max: f64) -> String {
+pub fn outside(bits: u64, value: f64, min: f64, max: f64) -> String {
     assert!(value.to_bits() == bits || value.is_nan() && f64::from_bits(bits).is_nan());
     let (least, most) = (min.to_bits(), max.to_bits());
     format!("refused 3 {bits:016X} {least:016X} {most:016X}")
@@ -50,7 +51,7 @@ fn around(size: u64) -> Vec<u64> {
 }
 
 // 0 and the least subnormals, the greatest, numbers beside 1, and what is no number.
-fn edges() -> Vec<u64> {
+pub fn edges() -> Vec<u64> {
     let mut edges = Vec::new();
     for size in [0, 1, 1 << 51, 1 << 52, ONE / 2, ONE, 2 * ONE, INFINITY - 1] {
         edges.extend(around(size));
@@ -109,7 +110,7 @@ fn limits() -> Vec<Case> {
 }
 
 // A number from -1 to 1, mostly.
-fn number(random: &mut Random) -> u64 {
+pub fn number(random: &mut Random) -> u64 {
     let sign = random.below(2) << 63;
     let uniform = random.bits();
     match random.below(8) {

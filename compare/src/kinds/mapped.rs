@@ -9,6 +9,7 @@ pub const KIND: Kind = Kind {
     name: "mapped",
     limits,
     random,
+    share: 1,
 };
 
 // What follows a code's first byte: each byte a repeated one, but the last another.

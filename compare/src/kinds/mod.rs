@@ -14,6 +14,8 @@ mod peek;
 mod read;
 mod special;
 mod widen;
+mod write;
+mod write_at_limits;
 
 // A request and what the Rust answers to it, in the form of an answer of the program.
 pub struct Case {
@@ -27,9 +29,11 @@ pub struct Kind {
     // the same at every run
     pub limits: fn() -> Vec<Case>,
     pub random: fn(&mut Random) -> Case,
+    // how many of those come in each turn of the kinds
+    pub share: usize,
 }
 
-pub const KINDS: [Kind; 8] = [
+pub const KINDS: [Kind; 9] = [
     oid::KIND,
     widen::KIND,
     narrow::KIND,
@@ -38,6 +42,7 @@ pub const KINDS: [Kind; 8] = [
     special::KIND,
     peek::KIND,
     read::KIND,
+    write::KIND,
 ];
 
 // Every string of three bytes that starts with this one, peeked at and read.

@@ -7,6 +7,7 @@ pub const KIND: Kind = Kind {
     name: "narrow",
     limits,
     random,
+    share: 1,
 };
 
 // The exponent's field of the least normal binary32, and that of the greatest finite one.
@@ -31,7 +32,7 @@ fn case(bits: u64) -> Case {
 }
 
 // The Rust fixes no bits here: the sign and the top of the fraction stay, and the quiet bit is set.
-fn narrow_nan(bits: u64) -> u32 {
+pub fn narrow_nan(bits: u64) -> u32 {
     let sign = (bits >> 63) << 31;
     let fraction = bits >> 29 & 0x7F_FFFF;
     (sign | 0x7FC0_0000 | fraction) as u32
@@ -75,10 +76,11 @@ fn limits() -> Vec<Case> {
     cases
 }
 
-fn random(random: &mut Random) -> Case {
+// Near a tie, a limit, or what is no number, mostly.
+pub fn number(random: &mut Random) -> u64 {
     let sign = random.below(2);
     let uniform = random.bits();
-    case(match random.below(8) {
+    match random.below(8) {
         0 | 1 => {
             let field = random.between(NORMAL - 27, NORMAL + 2);
             bits_of(sign, field, random.pick(&around_tie(field, uniform & ALL)))
@@ -102,5 +104,9 @@ fn random(random: &mut Random) -> Case {
             random.pick(&around_tie(2047, uniform & ALL)),
         ),
         _ => uniform,
-    })
+    }
+}
+
+fn random(random: &mut Random) -> Case {
+    case(number(random))
 }

@@ -7,6 +7,7 @@ pub const KIND: Kind = Kind {
     name: "oid",
     limits,
     random,
+    share: 1,
 };
 
 // Bytes at both ends of what a byte can mean: more follows or not, no digits or all, the top digits of 2^32 and below it.

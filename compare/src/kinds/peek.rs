@@ -9,6 +9,7 @@ pub const KIND: Kind = Kind {
     name: "peek",
     limits,
     random,
+    share: 1,
 };
 
 pub(super) fn case(bytes: &[u8]) -> Case {

@@ -14,6 +14,7 @@ pub const KIND: Kind = Kind {
     name: "read",
     limits,
     random,
+    share: 1,
 };
 
 // How many deviations, correlations and entries of presence are lent.
@@ -110,7 +111,7 @@ fn lines(bytes: &[u8], read: &SdccFlp) -> String {
 }
 
 // None, one short, exact and larger.
-fn rooms_around(needed: usize) -> Vec<usize> {
+pub fn rooms_around(needed: usize) -> Vec<usize> {
     let mut rooms = vec![0, needed, needed + 1, needed + 5];
     rooms.extend(needed.checked_sub(1));
     rooms

@@ -9,6 +9,7 @@ pub const KIND: Kind = Kind {
     name: "special",
     limits,
     random,
+    share: 1,
 };
 
 // Each kind's word, and its special value of a payload.

@@ -7,6 +7,7 @@ pub const KIND: Kind = Kind {
     name: "widen",
     limits,
     random,
+    share: 1,
 };
 
 const FRACTIONS: [u32; 10] = [

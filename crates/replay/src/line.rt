@@ -1,4 +1,5 @@
 //! A request's line, read from a place on.
+use crate::part::within_words;
 ghost use Prim.Native.Nat.{_≤_, _<_};
 ghost use lib.ListN.{length};
 ghost use Rattle.replay.specs.Line.{Passed, Digits, Numeral, Spelled};
@@ -151,4 +152,62 @@ pub(crate) fn byte_string(line: &[u8], at: usize, bytes: &mut [u8]) -> Bytes
         return Bytes::Read { count: 0, next };
     }
     pairs(line, at, bytes)
+}
+
+// A space and the bits of a number after it.
+fn bits_after_space(line: &[u8], at: usize) -> Number {
+    let space = past(line, at, b" ");
+    let Place::At(next) = space else {
+        return Number::Malformed;
+    };
+    hex(line, next, 16)
+}
+
+// As many numbers as the list has entries, each after a space.
+fn entries(line: &[u8], at: usize, list: &mut [u64]) -> Place {
+    let mut next = at;
+    let mut i: usize = 0;
+    while i < list.len() {
+        let number = bits_after_space(line, next);
+        let Number::Read { value, next: after } = number else {
+            return Place::Nowhere;
+        };
+        list[i] = value;
+        next = after;
+        i += 1;
+    }
+    Place::At(next)
+}
+
+// The list, into the front of `room`: its count, which is answered, and then its entries.
+pub(crate) fn list(line: &[u8], at: usize, room: &mut [u64]) -> Number {
+    let number = decimal(line, at);
+    let Number::Read { value: count, next } = number else {
+        return Number::Malformed;
+    };
+    if (room.len() as u64) < count {
+        return Number::Malformed;
+    }
+    let listed = within_words(count as usize, room);
+    let end = entries(line, next, &mut room[..listed]);
+    let Place::At(after) = end else {
+        return Number::Malformed;
+    };
+    Number::Read {
+        value: count,
+        next: after,
+    }
+}
+
+// The list and the space after it.
+pub(crate) fn list_before_space(line: &[u8], at: usize, room: &mut [u64]) -> Number {
+    let number = list(line, at, room);
+    let Number::Read { value, next } = number else {
+        return Number::Malformed;
+    };
+    let space = past(line, next, b" ");
+    let Place::At(after) = space else {
+        return Number::Malformed;
+    };
+    Number::Read { value, next: after }
 }

@@ -10,6 +10,7 @@ mod packs;
 mod part;
 mod refusal;
 mod requests;
+mod writes;
 
 // A request of 300,000 bytes in hex, or of 33,300 numbers of 16 digits, with room to spare.
 const LINE: usize = 655_360;

@@ -4,8 +4,32 @@ use crate::numeric;
 use crate::output::Answered;
 use crate::packs;
 use crate::refusal::bad_request;
+use crate::writes;
 ghost use Prim.Native.Nat.{_≤_};
 ghost use lib.ListN.{length};
+
+// The answer to a line that is no request on numbers or codes. The two are apart so that the proof of each stays small.
+fn answer_packs(
+    line: &[u8],
+    bytes: &mut [u8],
+    deviations: &mut [u64],
+    correlations: &mut [u64],
+    presence: &mut [u8],
+    out: &mut [u8],
+    held: usize,
+) -> usize
+    ensures { λ r. ⌜ r ≤ length (now (out .entry)) ⌝ }
+{
+    let on_reads = packs::answer(line, bytes, deviations, correlations, presence, out, held);
+    if let Answered::Held(answered) = on_reads {
+        return answered;
+    }
+    let on_writes = writes::answer(line, bytes, deviations, correlations, out, held);
+    if let Answered::Held(answered) = on_writes {
+        return answered;
+    }
+    bad_request(out, held)
+}
 
 // The answer to a line, without its newline.
 pub(crate) fn answer(
@@ -27,9 +51,5 @@ pub(crate) fn answer(
     if let Answered::Held(answered) = on_codes {
         return answered;
     }
-    let on_packs = packs::answer(line, bytes, deviations, correlations, presence, out, held);
-    if let Answered::Held(answered) = on_packs {
-        return answered;
-    }
-    bad_request(out, held)
+    answer_packs(line, bytes, deviations, correlations, presence, out, held)
 }

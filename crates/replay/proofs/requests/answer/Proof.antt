@@ -15,11 +15,6 @@ returns-2 c =
     let kept = c .before .before .before .before .before .before .before .answer2 .ensures in
     omega (arith, rw (c .before .on-codes .given .1) at kept)
 
-returns-3 : tie.Need-returns-3
-returns-3 c =
-    let kept = c .before .before .before .before .before .before .before .before .before .before .before .before .before .answer3 .ensures in
-    omega (arith, rw (c .before .on-packs .given .1) at kept)
-
 pub answer-spec : {M : Type 1} → statement M
 answer-spec =
     tie.close
@@ -35,15 +30,6 @@ answer-spec =
     (λ c. search needs)
     (λ c. search needs)
     returns-2
-    (λ c. search needs)
-    (λ c κs. search needs)
-    (λ c. search needs)
-    (λ c. search needs)
-    (λ c. search needs)
-    (λ c. search needs)
-    (λ c. search needs)
-    (λ c. search needs)
-    returns-3
     (λ c. search needs)
     (λ c κs. search needs)
     (λ c. search needs)
