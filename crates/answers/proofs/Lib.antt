@@ -5,3 +5,4 @@ pub mod Rules
 pub mod Next
 pub mod Stored
 pub mod Joined
+pub mod InTable

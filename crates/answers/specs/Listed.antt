@@ -1,5 +1,7 @@
 -- This paper's number and values for each case of each enum: what the promises speak of.
+use mathlib.Core.Path.{_≡_}
 use mathlib.Core.List.{[], _∷_}
+use mathlib.Core.Logic.{_⊎_}
 use Rattle.answers.specs.declared.Refusal.{Refusal}
 use Rattle.answers.specs.declared.Refusal.the-variants.{
   TruncatedField,
@@ -34,3 +36,7 @@ written (Refused r) = listed r
 abbrev pub checked : Check → Answer
 checked check.Passes = passes
 checked (check.Refused r) = listed r
+
+-- an answer of the table: done, or what a refusal lists as
+abbrev pub InTable : Answer → Type 0
+InTable a = (a .number ≡ 0) ⊎ ((r : Refusal) × (a ≡ listed r))

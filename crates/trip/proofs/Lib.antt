@@ -4,3 +4,6 @@ pub mod Head
 pub mod Found
 pub mod Values
 pub mod Back
+pub mod Answered
+pub mod Determined
+pub mod Demand1

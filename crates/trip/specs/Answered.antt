@@ -1,0 +1,24 @@
+-- Demand 1, one half: every input of every public function that answers by the table has an answer of it.
+use mathlib.Core.List.{List}
+use Prim.Native.Nat.{ℕ, _-_}
+use Rattle.answers.specs.Listed.{InTable}
+use Rattle.imapb.specs.Tables.{rangeRule, imapbWritten, specialWritten}
+use Rattle.imapb.specs.declared.special.ImapbSpecial.{ImapbSpecial}
+use Rattle.layout.specs.declared.control.ParseControl.{ParseControl}
+use Rattle.layout.specs.Size.{sizeRules}
+use Rattle.numbers.specs.BerOid.{oidRead, oidWritten}
+use Rattle.reader.specs.Rules.{readAnswer}
+use Rattle.writer.specs.Rules.{writeAnswer}
+
+pub record Answered : Type 0 where
+  -- the reader, for every byte string and all rooms; the size check and the BER-OID reader within it
+  pub reads : (bytes : List ℕ) (d c p : ℕ) → InTable (readAnswer bytes d c p)
+  pub fits : (n R : ℕ) (k : ParseControl) → InTable (sizeRules n R k)
+  pub reads-oid : (bytes : List ℕ) → InTable (oidRead bytes)
+  -- the writer, for all numbers and rooms
+  pub writes : (ds cs : List ℕ) (L room : ℕ) → InTable (writeAnswer ds cs L room)
+  pub writes-oid : (v room : ℕ) → InTable (oidWritten v room)
+  -- mapped values and special codes
+  pub maps : (L v room : ℕ) → InTable (imapbWritten L v room)
+  pub checks : (v : ℕ) → InTable (rangeRule v)
+  pub maps-special : (L : ℕ) (s : ImapbSpecial) (room : ℕ) → InTable (specialWritten L s room)
