@@ -87,4 +87,5 @@ answered =
       maps = λ L v room. search table depth 10;
       checks = range-in;
       maps-special = λ L s room. search table depth 10;
+      looks-up = λ p ds cs i j. search table depth 10;
     }

@@ -33,6 +33,9 @@ use Rattle.reader.proofs.read.decode_sdcc_flp.Reads as decode-sdcc-flp
 use Rattle.writer.proofs.OneAnswer.{encode-sdcc-flp-mode2-one, encode-sdcc-flp-one}
 use Rattle.writer.proofs.write.encode_sdcc_flp_mode2.Reads as encode-sdcc-flp-mode2
 use Rattle.writer.proofs.write.encode_sdcc_flp.Reads as encode-sdcc-flp
+use Rattle.matrix.proofs.OneAnswer.{correlation-one, usable-one}
+use Rattle.matrix.proofs.lookup.correlation.Reads as correlation
+use Rattle.matrix.proofs.usable.usable.Reads as usable
 
 pub record Determined : Type 0 where
   -- numbers
@@ -64,6 +67,9 @@ pub record Determined : Type 0 where
   -- the writer
   pub encode-sdcc-flp-mode2-determined : OneAnswer encode-sdcc-flp-mode2.Learnt (λ κs s. now (s .1 .1 .1 .0))
   pub encode-sdcc-flp-determined : OneAnswer encode-sdcc-flp.Learnt (λ κs s. now (s .1 .1 .0))
+  -- lookup and usable
+  pub correlation-determined : OneResult correlation.Learnt
+  pub usable-determined : OneResult usable.Learnt
 
 pub determined : Determined
 determined =
@@ -92,4 +98,6 @@ determined =
       decode-sdcc-flp-determined = decode-sdcc-flp-one;
       encode-sdcc-flp-mode2-determined = encode-sdcc-flp-mode2-one;
       encode-sdcc-flp-determined = encode-sdcc-flp-one;
+      correlation-determined = correlation-one;
+      usable-determined = usable-one;
     }

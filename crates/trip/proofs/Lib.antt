@@ -4,6 +4,7 @@ pub mod Head
 pub mod Found
 pub mod Values
 pub mod Back
+pub mod Cells
 pub mod Answered
 pub mod Determined
 pub mod Demand1

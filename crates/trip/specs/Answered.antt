@@ -1,11 +1,13 @@
 -- Demand 1, one half: every input of every public function that answers by the table has an answer of it.
 use mathlib.Core.List.{List}
-use Prim.Native.Nat.{ℕ, _-_}
+use Prim.Native.Nat.{ℕ}
 use Rattle.answers.specs.Listed.{InTable}
 use Rattle.imapb.specs.Tables.{rangeRule, imapbWritten, specialWritten}
 use Rattle.imapb.specs.declared.special.ImapbSpecial.{ImapbSpecial}
 use Rattle.layout.specs.declared.control.ParseControl.{ParseControl}
 use Rattle.layout.specs.Size.{sizeRules}
+use Rattle.layout.specs.declared.pack.SdccFlp.{SdccFlp}
+use Rattle.matrix.specs.Lookup.{cellAnswer}
 use Rattle.numbers.specs.BerOid.{oidRead, oidWritten}
 use Rattle.reader.specs.Rules.{readAnswer}
 use Rattle.writer.specs.Rules.{writeAnswer}
@@ -22,3 +24,5 @@ pub record Answered : Type 0 where
   pub maps : (L v room : ℕ) → InTable (imapbWritten L v room)
   pub checks : (v : ℕ) → InTable (rangeRule v)
   pub maps-special : (L : ℕ) (s : ImapbSpecial) (room : ℕ) → InTable (specialWritten L s room)
+  -- cell lookup
+  pub looks-up : (p : SdccFlp) (ds cs : List ℕ) (i j : ℕ) → InTable (cellAnswer p ds cs i j)

@@ -1,0 +1,4 @@
+pub mod Cells
+pub mod Deviation
+pub mod FirstAll
+pub mod OneAnswer

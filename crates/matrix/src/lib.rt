@@ -1,0 +1,3 @@
+//! The matrix that a pack's numbers are: cell lookup, and whether it can be used.
+pub mod lookup;
+pub mod usable;

@@ -1,0 +1,78 @@
+-- Looking up what the reader left: each cell gives the number that the pack's bytes hold for it.
+-- Assumes nothing.
+use mathlib.Core.Path.{_≡_, refl, _∙_}
+use mathlib.Core.List.{List}
+use Prim.Native.Nat.{ℕ, min, max, _-_, _≤_, _<_}
+use native.Mathlib.Omega.{arith}
+use lib.ListN.{length, drop, length-append, List·getD-append}
+use borrow.Author.Tests.{eq-eqb, ne-eqb}
+use Rattle.answers.specs.Lent.{over, tab}
+use Rattle.answers.specs.Table.{next}
+use Rattle.answers.proofs.Lent.{length-tab, getD-tab}
+use Rattle.answers.proofs.Next.{next-zero}
+use Rattle.layout.specs.Size.{maxRows, matrixSize, controlOf, bodyAt, headRules, sizeRules, fitRules}
+use Rattle.layout.specs.Triangle.{slotOf, slotsOf, IsPair}
+use Rattle.layout.proofs.Fits.{fits-tells}
+use Rattle.layout.proofs.RowByRow.{row-by-row}
+use Rattle.reader.specs.Elements.{headOf, deviationCount, deviations, correlations}
+use Rattle.reader.specs.Listed.{packOf}
+use Rattle.reader.specs.Rules.{elementRules, roomRules, done, readAnswer}
+use Rattle.matrix.specs.Lookup.{number, entryAnswer}
+use Rattle.matrix.proofs.Cells.{entry-held, entry-none, no-row, no-column, diagonal, pair}
+use Rattle.trip.specs.Cells.{deviationRead, slotRead, cellRead, CellsRead}
+
+-- an entry that was stored, over what was there
+stored : (n : ℕ) (f : ℕ → ℕ) (lent : List ℕ) (k i j : ℕ) → k < n → entryAnswer (over (tab n f) lent) n k i j ≡ number (f k)
+stored n f lent k i j h =
+    let rest = drop (length (tab n f)) lent in
+    let b : k < length (tab n f) = rw (length-tab n f) h in
+    let l : k < length (over (tab n f) lent) = rw length-append (omega arith) in
+    entry-held (over (tab n f) lent) n k i j h l ∙ rw (List·getD-append (tab n f) rest 0 k b, getD-tab n f k h)
+
+module _ (bytes ds₀ cs₀ : List ℕ) (rows : matrixSize bytes ≤ maxRows) where
+  -- N, and what the reader left
+  abbrev n : ℕ
+  n = matrixSize bytes
+
+  abbrev ds : List ℕ
+  ds = over (deviations bytes (headOf bytes)) ds₀
+
+  abbrev cs : List ℕ
+  cs = over (correlations bytes (headOf bytes)) cs₀
+
+  -- two rows that differ, the smaller and the larger of them known
+  pair-read : (i j a b : ℕ) → IsPair n a b → min i j ≡ a → max i j ≡ b → cellRead bytes ds₀ cs₀ i j ≡ number (slotRead bytes (slotOf n a b))
+  pair-read i j a b h low high =
+      pair (packOf (headOf bytes)) ds cs i j rows (omega arith) (omega arith) (λ e. omega arith)
+      ∙ rw (low, high) (stored (slotsOf n) (slotRead bytes) cs₀ (slotOf n a b) i j (row-by-row n .below a b h))
+
+  -- a row with itself
+  on-diagonal : (i : ℕ) → i < n → cellRead bytes ds₀ cs₀ i i ≡ entryAnswer ds (deviationCount (headOf bytes)) i i i
+  on-diagonal i h = diagonal (packOf (headOf bytes)) ds cs i i rows h h refl
+
+  -- every cell of a matrix within the limit
+  cells : CellsRead bytes ds₀ cs₀
+  cells =
+      record {
+        pair = λ i j h. pair-read i j i j h (omega arith) (omega arith);
+        turned = λ i j h. pair-read j i i j h (omega arith) (omega arith);
+        diagonal =
+            λ i h some.
+            on-diagonal i h ∙ stored (deviationCount (headOf bytes)) (deviationRead bytes) ds₀ i i i (rw (ne-eqb (controlOf bytes .slen) 0 some) h);
+        none = λ i h e. on-diagonal i h ∙ entry-none ds (deviationCount (headOf bytes)) i i i (rw (eq-eqb (controlOf bytes .slen) 0 e) (omega arith));
+        noRow = λ i j h. no-row (packOf (headOf bytes)) ds cs i j h;
+        noColumn = λ i j h. no-column (packOf (headOf bytes)) ds cs i j h;
+      }
+
+-- a pack that was read has no more rows than the limit
+rows-read : (bytes : List ℕ) (d c p : ℕ) → readAnswer bytes d c p .number ≡ 0 → matrixSize bytes ≤ maxRows
+rows-read bytes d c p e =
+    let h = headOf bytes in
+    let R = length bytes - bodyAt bytes in
+    let fit = next-zero (fitRules bytes) (next (elementRules bytes h) (next (roomRules h d c p) (done h))) e .0 in
+    let size = next-zero (headRules bytes) (sizeRules (matrixSize bytes) R (controlOf bytes)) fit .1 in
+    fits-tells (matrixSize bytes) R (controlOf bytes) .done size .rows
+
+-- every cell of a pack that was read
+pub cells-read : (bytes ds₀ cs₀ ps₀ : List ℕ) → readAnswer bytes (length ds₀) (length cs₀) (length ps₀) .number ≡ 0 → CellsRead bytes ds₀ cs₀
+cells-read bytes ds₀ cs₀ ps₀ e = cells bytes ds₀ cs₀ (rows-read bytes (length ds₀) (length cs₀) (length ps₀) e)
