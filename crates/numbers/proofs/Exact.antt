@@ -35,7 +35,7 @@ by-fields : (s : Bool) (x t : ℕ) → x < 255 → t < 2 ^ 23 → SameNumber (of
 by-fields s zero t h k = by-value (ofFields binary32 s 0 t) s t 0 (omega arith) (lit≤ tt) (subnormal-value binary32 s t)
 by-fields s (suc j) t h k = by-value (ofFields binary32 s (suc j) t) s (2 ^ 23 + t) j (omega arith) (omega arith) (normal-value binary32 s j t h)
 
-nearest-fits : (f : Format) (x : Float) → T (fits f (nearest f x))
+pub nearest-fits : (f : Format) (x : Float) → T (fits f (nearest f x))
 unfolding nearest
 nearest-fits f nan = nan-fits f
 nearest-fits f (inf s) = inf-fits f s

@@ -21,7 +21,7 @@ use Rattle.trip.proofs.Found.{found}
 use Rattle.trip.proofs.Values.{values-found}
 
 -- lists of equal numbers
-tab-same : (n : ℕ) {f g : ℕ → ℕ} → ((k : ℕ) → k < n → f k ≡ g k) → tab n f ≡ tab n g
+pub tab-same : (n : ℕ) {f g : ℕ → ℕ} → ((k : ℕ) → k < n → f k ≡ g k) → tab n f ≡ tab n g
 tab-same zero h = refl
 tab-same (suc n) h = rw (tab-same n (λ k l. h k (omega arith)), h n (omega arith))
 

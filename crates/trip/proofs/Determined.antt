@@ -4,6 +4,7 @@ use mathlib.Core.List.{List}
 use Prim.Native.Nat.{ℕ}
 use denote.Ref.{now}
 use Rattle.answers.specs.OneAnswer.{OneResult, OneAnswer}
+use Rattle.trip.specs.Tripped.{Lent}
 use Rattle.numbers.proofs.OneAnswer.{read-be-one, ber-oid-len-one, read-ber-oid-one, write-be-one, write-ber-oid-one, nearest-binary64-one, binary64-to-binary32-one, binary32-to-binary64-one, whole-part-one}
 use Rattle.numbers.proofs.words.read_be.Reads as read-be
 use Rattle.numbers.proofs.ber_oid.ber_oid_len.Reads as ber-oid-len
@@ -36,6 +37,8 @@ use Rattle.writer.proofs.write.encode_sdcc_flp.Reads as encode-sdcc-flp
 use Rattle.matrix.proofs.OneAnswer.{correlation-one, usable-one}
 use Rattle.matrix.proofs.lookup.correlation.Reads as correlation
 use Rattle.matrix.proofs.usable.usable.Reads as usable
+use Rattle.trip.proofs.OneAnswer.{round-trip-one}
+use Rattle.trip.proofs.round_trip.round_trip.Reads as round-trip
 
 pub record Determined : Type 0 where
   -- numbers
@@ -70,6 +73,8 @@ pub record Determined : Type 0 where
   -- lookup and usable
   pub correlation-determined : OneResult correlation.Learnt
   pub usable-determined : OneResult usable.Learnt
+  -- written, read and compared
+  pub round-trip-determined : OneAnswer {L = Lent} round-trip.Learnt (λ κs s. record { pack = now (s .1 .1 .1 .0); deviations = now (s .1 .1 .1 .1 .0); correlations = now (s .1 .1 .1 .1 .1 .0); presence = now (s .1 .1 .1 .1 .1 .1 .0) })
 
 pub determined : Determined
 determined =
@@ -100,4 +105,5 @@ determined =
       encode-sdcc-flp-determined = encode-sdcc-flp-one;
       correlation-determined = correlation-one;
       usable-determined = usable-one;
+      round-trip-determined = round-trip-one;
     }

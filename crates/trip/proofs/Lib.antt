@@ -4,7 +4,16 @@ pub mod Head
 pub mod Found
 pub mod Values
 pub mod Back
+pub mod Rounding
+pub mod RoundTrip
+pub mod Tight
+pub mod Compared
+pub mod Coded
+pub mod Stood
+pub mod Wrote
+pub mod Tripped
 pub mod Cells
+pub mod OneAnswer
 pub mod Answered
 pub mod Determined
 pub mod Demand1

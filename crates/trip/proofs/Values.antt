@@ -9,14 +9,14 @@ use native.Mathlib.Omega.{arith}
 use lib.Dec.{T, leb}
 use lib.ListN.{length, getD}
 use lib.Pow.{pow-lt}
-use lib.Ieee.{Float, nan, inf, fin, binary32, binary64, fits, up, down, top, nanBits, ofBits, toBits}
+use lib.Ieee.{binary32, binary64, top, nanBits, ofBits, toBits}
 use lib.Ieee.Bits.{toBits-lt, ofBits-fits}
-use lib.Ieee.Fits.{nan-fits, inf-fits, round-fits}
 use Rattle.answers.specs.Table.{pick}
 use Rattle.answers.proofs.Rules.{picked}
 use Rattle.numbers.specs.Words.{wordOf, bytesOf}
 use Rattle.numbers.specs.Conversions.{nearest, quietNan, topFraction, converted}
 use Rattle.numbers.proofs.Bytes.{word-of-bytes, bits}
+use Rattle.numbers.proofs.Exact.{nearest-fits}
 use Rattle.imapb.specs.Mapping.{codeOf, inRange}
 use Rattle.imapb.proofs.Law.{code-le-top, never-special}
 use Rattle.reader.specs.Elements.{codeBits}
@@ -30,18 +30,12 @@ under true e = e refl
 under false e = refl
 
 -- ---- a deviation: a binary32 is four bytes
--- a number that was rounded to one, and a NaN
-nearest-fits : (x : Float) → T (fits binary32 (nearest binary32 x))
-unfolding nearest
-nearest-fits nan = nan-fits binary32
-nearest-fits (inf s) = inf-fits binary32 s
-nearest-fits (fin s m e) = round-fits binary32 s (m * up e) (down e)
-
+-- a NaN
 quiet-small : (s : Bool) (t : ℕ) → quietNan binary32 s t < 2 ^ 32
 quiet-small true t = omega arith
 quiet-small false t = omega arith
 
--- what a deviation is converted to
+-- what a deviation is converted to, be it a number or a NaN
 converted-small : (d : ℕ) → converted binary64 binary32 d < 2 ^ 32
 unfolding converted
 converted-small d =
@@ -49,7 +43,7 @@ converted-small d =
     let t = topFraction binary64 d in
     let x = ofBits binary64 d in
     picked (λ (n : ℕ). n < 2 ^ 32) (nanBits binary64 d) (quietNan binary32 s t) (toBits binary32 (nearest binary32 x))
-    (λ _. quiet-small s t) (λ _. toBits-lt binary32 (nearest binary32 x) (nearest-fits x))
+    (λ _. quiet-small s t) (λ _. toBits-lt binary32 (nearest binary32 x) (nearest-fits binary32 x))
 
 -- its bytes read back
 pub word-of-deviation : (d : ℕ) → wordOf (bytesOf 4 (converted binary64 binary32 d)) ≡ converted binary64 binary32 d

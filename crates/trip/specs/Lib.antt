@@ -2,5 +2,8 @@ pub mod Packs
 pub mod Found
 pub mod Values
 pub mod Back
+pub mod RoundTrip
+pub mod Compared
+pub mod Tripped
 pub mod Cells
 pub mod Answered
