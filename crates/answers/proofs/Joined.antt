@@ -1,7 +1,7 @@
 -- Laws of lists one behind the other: how long they are together, and where each stands.
 -- Assumes nothing.
-use mathlib.Core.Path.{_≡_, refl, sym, ap, _∙_}
-use mathlib.Core.List.{List, [], _∷_, _++_, append-nil, append-assoc}
+use mathlib.Core.Path.{_≡_, refl, sym}
+use mathlib.Core.List.{List, [], _++_, append-nil, append-assoc}
 use mathlib.Core.Logic.{⊎-elim}
 use Prim.Native.Nat.{ℕ, zero, suc, _+_, _-_, _*_, _≤_, _<_}
 use native.Mathlib.Nat.{add-zero, add-suc, zero-mul, suc-mul, le-of-suc-le-suc, eq-or-lt-of-le}
@@ -19,6 +19,12 @@ module _ (f : ℕ → List ℕ) where
   pub length-joined : (s : ℕ) → ((k : ℕ) → length (f k) ≡ s) → (n : ℕ) → length (joined n f) ≡ n * s
   length-joined s h zero = sym (zero-mul s)
   length-joined s h (suc n) = rw (length-append, length-joined s h n, h n) (omega (arith, suc-mul n s))
+
+  -- lists of at most one length
+  pub joined-le : (s n : ℕ) → ((k : ℕ) → k < n → length (f k) ≤ s) → length (joined n f) ≤ n * s
+  joined-le s zero h = omega arith
+  joined-le s (suc n) h =
+      rw length-append (omega (arith, suc-mul n s, h n (omega arith), joined-le s n (λ k l. h k (omega arith))))
 
   -- more lists are never shorter
   pub joined-grows : (m d : ℕ) → length (joined m f) ≤ length (joined (m + d) f)

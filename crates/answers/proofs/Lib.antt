@@ -6,3 +6,4 @@ pub mod Next
 pub mod Stored
 pub mod Joined
 pub mod InTable
+pub mod Runs

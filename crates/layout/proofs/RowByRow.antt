@@ -4,6 +4,7 @@ use mathlib.Core.Path.{_≡_, refl, sym, ap}
 use mathlib.Core.Logic.{by-cases}
 use Prim.Native.Nat.{ℕ, zero, suc, _+_, _-_, _*_, _^_, _≤_, _<_}
 use native.Mathlib.Nat.{suc-mul, mul-suc, mul-le-mul, le-antisymm}
+use native.Mathlib.Numerals.{add-one}
 use native.Mathlib.Decide.{decLt, le-ind}
 use native.Mathlib.Omega.{arith, by-contra}
 use Rattle.layout.specs.Triangle.{slotsOf, slotOf, IsPair, RowByRow}
@@ -62,6 +63,21 @@ module _ (n : ℕ) where
         (r, omega (arith, ap start r, slot-is i j (omega arith), slot-is k l (omega arith)));
     onto = λ s h. find s n (omega arith) (rw all-is at h);
   }
+
+  -- ---- the first slot of a row, as a loop over the rows carries it along
+  pub row-first : slotOf n 0 1 ≡ 0
+  row-first = slot-is 0 1 (omega arith)
+
+  pub row-next : (i : ℕ) → i < n → slotOf n (i + 1) (i + 1 + 1) ≡ slotOf n i (i + 1) + (n - 1 - i)
+  row-next i h = rw add-one (omega (arith, slot-is i (suc i) (omega arith), slot-is (suc i) (suc i + 1) h))
+
+  -- never past M
+  pub row-within : (i : ℕ) → i ≤ n → slotOf n i (i + 1) ≤ slotsOf n
+  row-within i h = omega (arith, slot-is i (i + 1) h, all-is, start-mono h)
+
+  -- along a row
+  pub row-along : (i k : ℕ) → i ≤ n → slotOf n i (i + 1 + k) ≡ slotOf n i (i + 1) + k
+  row-along i k h = omega (arith, slot-is i (i + 1) h, slot-is i (i + 1 + k) h)
 
   -- the product that the code halves is at most N(N-1)
   pub product-le : (i : ℕ) → i ≤ n → i * (2 * n - i - 1) ≤ n * (n - 1)

@@ -1,6 +1,6 @@
 -- Rules h) to k) as the reader decides them: h) and j) by their first element.
 -- Assumes nothing.
-use mathlib.Core.Path.{_≡_, refl, sym}
+use mathlib.Core.Path.{_≡_, refl}
 use mathlib.Core.Bool.{Bool, true, false, not, _||_, _&&_}
 use mathlib.Core.List.{List, [], _∷_}
 use mathlib.Core.Logic.{inl, inr}
@@ -10,12 +10,7 @@ use native.Mathlib.Omega.{arith}
 use borrow.Author.Tests.{lt-ltb, le-ltb, ne-eqb}
 use lib.Dec.{eqb}
 use lib.ListN.{length}
-use Rattle.answers.specs.Table.{Answer, answer, wholes, pick, passes, next}
-use Rattle.answers.specs.Listed.{listed, checked}
-use Rattle.answers.specs.declared.Check.{Check}
-use Rattle.answers.specs.declared.Check.the-variants.{Passes, Refused}
-use Rattle.answers.specs.declared.Refusal.{Refusal}
-use Rattle.answers.proofs.OneToOne.{refused-not-done, done-not-refused}
+use Rattle.answers.specs.Table.{Answer, answer, wholes, pick, passes}
 use Rattle.imapb.specs.Tables.{supported}
 use Rattle.layout.specs.declared.control.ParseControl.{ParseControl}
 use Rattle.reader.specs.declared.head.Head.{Head}

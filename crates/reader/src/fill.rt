@@ -7,12 +7,12 @@ use crate::turns::refused_number;
 use answers::Check;
 use layout::control::ParseControl;
 ghost use mathlib.Core.Path.{_≡_};
-ghost use Prim.Native.Nat.{_+_, _*_, _≤_, _<_, _^_};
+ghost use Prim.Native.Nat.{_+_, _*_, _≤_, _<_};
 ghost use lib.ListN.{length};
 ghost use Rattle.answers.specs.Lent.{over, tab};
 ghost use Rattle.answers.specs.Table.{passes};
 ghost use Rattle.answers.specs.Listed.{checked};
-ghost use Rattle.reader.specs.Elements.{presentBefore, deviationIn, correlationIn, presenceIn};
+ghost use Rattle.reader.specs.Elements.{deviationIn, correlationIn, presenceIn};
 ghost use Rattle.reader.specs.Rules.{deviationFormat};
 ghost use Rattle.reader.specs.Fill.{SlotsHeld};
 

@@ -1,6 +1,6 @@
 //! A request's line, read from a place on.
 use crate::part::within_words;
-ghost use Prim.Native.Nat.{_≤_, _<_};
+ghost use Prim.Native.Nat.{_<_};
 ghost use lib.ListN.{length};
 ghost use Rattle.replay.specs.Line.{Passed, Digits, Numeral, Spelled};
 

@@ -88,4 +88,5 @@ answered =
       checks = range-in;
       maps-special = λ L s room. search table depth 10;
       looks-up = λ p ds cs i j. search table depth 10;
+      prints = λ bytes room. search table depth 10;
     }

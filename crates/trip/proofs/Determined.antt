@@ -37,6 +37,8 @@ use Rattle.writer.proofs.write.encode_sdcc_flp.Reads as encode-sdcc-flp
 use Rattle.matrix.proofs.OneAnswer.{correlation-one, usable-one}
 use Rattle.matrix.proofs.lookup.correlation.Reads as correlation
 use Rattle.matrix.proofs.usable.usable.Reads as usable
+use Rattle.report.proofs.OneAnswer.{print-pack-one}
+use Rattle.report.proofs.print.print_pack.Reads as print-pack
 use Rattle.trip.proofs.OneAnswer.{round-trip-one}
 use Rattle.trip.proofs.round_trip.round_trip.Reads as round-trip
 
@@ -73,6 +75,8 @@ pub record Determined : Type 0 where
   -- lookup and usable
   pub correlation-determined : OneResult correlation.Learnt
   pub usable-determined : OneResult usable.Learnt
+  -- what the program prints
+  pub print-pack-determined : OneAnswer print-pack.Learnt (λ κs s. now (s .1 .0))
   -- written, read and compared
   pub round-trip-determined : OneAnswer {L = Lent} round-trip.Learnt (λ κs s. record { pack = now (s .1 .1 .1 .0); deviations = now (s .1 .1 .1 .1 .0); correlations = now (s .1 .1 .1 .1 .1 .0); presence = now (s .1 .1 .1 .1 .1 .1 .0) })
 
@@ -105,5 +109,6 @@ determined =
       encode-sdcc-flp-determined = encode-sdcc-flp-one;
       correlation-determined = correlation-one;
       usable-determined = usable-one;
+      print-pack-determined = print-pack-one;
       round-trip-determined = round-trip-one;
     }

@@ -10,6 +10,7 @@ use Rattle.layout.specs.declared.pack.SdccFlp.{SdccFlp}
 use Rattle.matrix.specs.Lookup.{cellAnswer}
 use Rattle.numbers.specs.BerOid.{oidRead, oidWritten}
 use Rattle.reader.specs.Rules.{readAnswer}
+use Rattle.report.specs.Printed.{printAnswer}
 use Rattle.writer.specs.Rules.{writeAnswer}
 
 pub record Answered : Type 0 where
@@ -26,3 +27,5 @@ pub record Answered : Type 0 where
   pub maps-special : (L : ℕ) (s : ImapbSpecial) (room : ℕ) → InTable (specialWritten L s room)
   -- cell lookup
   pub looks-up : (p : SdccFlp) (ds cs : List ℕ) (i j : ℕ) → InTable (cellAnswer p ds cs i j)
+  -- what the program prints, into lent memory
+  pub prints : (bytes : List ℕ) (room : ℕ) → InTable (printAnswer bytes room)

@@ -1,16 +1,13 @@
 -- The one pass over the correlations: what is checked and counted after k turns, and what passing tells.
 -- Assumes nothing.
 use mathlib.Core.Path.{_≡_, refl, sym, ap, _∙_}
-use mathlib.Core.Bool.{Bool, true}
 use mathlib.Core.List.{List, [], _∷_}
-use Prim.Native.Nat.{ℕ, zero, suc, _+_, _%_, _^_, _≤_, _<_}
+use Prim.Native.Nat.{ℕ, zero, suc, _+_, _≤_, _<_}
 use native.Mathlib.Numerals.{add-one}
 use native.Mathlib.Omega.{arith}
-use lib.Dec.{T}
 use lib.ListN.{length, getD, drop, drop-of-length-le}
 use lib.Seq.{drop-cons}
-use lib.Ieee.{binary64, ofBits}
-use Rattle.answers.specs.Table.{Answer, pick, passes, next}
+use Rattle.answers.specs.Table.{pick, passes, next}
 use Rattle.answers.specs.Listed.{listed, checked}
 use Rattle.answers.specs.declared.Check.{Check}
 use Rattle.answers.specs.declared.Check.the-variants.{Passes, Refused}
@@ -18,11 +15,10 @@ use Rattle.answers.specs.declared.Refusal.{Refusal}
 use Rattle.answers.proofs.Next.{next-zero, stops, goes}
 use Rattle.answers.proofs.OneToOne.{refused-not-done}
 use Rattle.answers.proofs.Rules.{picked}
-use Rattle.imapb.specs.Mapping.{inRange}
 use Rattle.imapb.specs.Tables.{rangeRule}
 use Rattle.imapb.proofs.Range.{in-range, range-told}
 use Rattle.writer.specs.Fill.{InRange}
-use Rattle.writer.specs.Listed.{Count, zeros, refused, counted}
+use Rattle.writer.specs.Listed.{zeros, refused, counted}
 use Rattle.writer.specs.Pack.{isZero, zerosBefore}
 use Rattle.writer.specs.Rules.{rangeRules}
 

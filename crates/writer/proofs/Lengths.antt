@@ -2,25 +2,23 @@
 -- Assumes nothing.
 use mathlib.Core.Path.{_≡_, refl, sym, ap, _∙_}
 use mathlib.Core.Bool.{Bool, true, false, not}
-use mathlib.Core.List.{List, [], _∷_, _++_}
+use mathlib.Core.List.{List, [], _++_}
 use Prim.Native.Nat.{ℕ, zero, suc, _+_, _-_, _*_, _/_, _^_, _≤_, _<_}
 use native.Mathlib.Nat.{zero-mul, suc-mul, mul-comm, add-mul, mul-assoc}
 use native.Mathlib.Omega.{arith}
 use borrow.Author.Tests.{ltb-true}
-use lib.Dec.{eqb, ltb}
 use lib.ListN.{length, getD, length-append}
 use lib.Ieee.{binary64, ofBits}
 use Rattle.answers.specs.Table.{pick}
 use Rattle.answers.specs.Lent.{joined}
-use Rattle.answers.proofs.Rules.{picked}
 use Rattle.answers.proofs.Lent.{length-tab}
 use Rattle.answers.proofs.Joined.{length-joined}
-use Rattle.numbers.specs.BerOid.{oidLength, oidBytes}
+use Rattle.numbers.specs.BerOid.{oidLength}
 use Rattle.numbers.specs.Words.{bytesOf}
 use Rattle.numbers.proofs.BerOid.{length-oid}
 use Rattle.numbers.proofs.Bytes.{length-bytes}
 use Rattle.imapb.specs.Mapping.{codeOf}
-use Rattle.writer.specs.Fill.{vectorLength, sentCount, vectorAt, deviationsAt, codesAt, endAt}
+use Rattle.writer.specs.Fill.{vectorLength, sentCount, endAt}
 use Rattle.writer.specs.Pack.{isZero, zerosBefore, sparseRule, element1, element2, element3, element4, element5, deviationBytes, vectorByte, codeBytes, formBytes, isSparse, packBytes}
 use Rattle.writer.proofs.Checked.{zeros-le}
 

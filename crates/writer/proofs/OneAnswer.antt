@@ -1,6 +1,5 @@
 -- No second answer meets a contract: two that do are the same, with what they leave in lent memory.
 -- Assumes nothing.
-use mathlib.Core.Path.{_≡_}
 use denote.Ref.{now}
 use Rattle.answers.specs.OneAnswer.{OneAnswer}
 use Rattle.answers.specs.Lent.{leaves}

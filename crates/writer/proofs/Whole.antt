@@ -1,6 +1,6 @@
 -- The writer's order, rule by rule: where each ends it, and what passing it tells.
 -- Assumes nothing.
-use mathlib.Core.Path.{_≡_, refl, sym, ap, _∙_}
+use mathlib.Core.Path.{_≡_, sym, ap, _∙_}
 use mathlib.Core.Bool.{false, not, and-eq-true-iff}
 use mathlib.Core.List.{List, [], _∷_}
 use Prim.Native.Nat.{ℕ, _≤_, _<_}
@@ -8,7 +8,7 @@ use native.Mathlib.Omega.{arith}
 use borrow.Author.Tests.{eqb-true, ltb-false, leb-true, lt-ltb, le-ltb, not-false}
 use lib.Dec.{eqb, ltb, leb}
 use lib.ListN.{length}
-use Rattle.answers.specs.Table.{Answer, answer, wholes, pick, passes, next}
+use Rattle.answers.specs.Table.{Answer, answer, wholes, next}
 use Rattle.answers.specs.Listed.{listed, checked}
 use Rattle.answers.specs.declared.Check.{Check}
 use Rattle.answers.specs.declared.Check.the-variants as check
@@ -23,7 +23,7 @@ use Rattle.layout.proofs.RowByRow.{few-slots}
 use Rattle.writer.specs.declared.check.Counted.{Counted}
 use Rattle.writer.specs.declared.check.Counted.the-variants.{Zeros, Refused}
 use Rattle.writer.specs.Fill.{Supported}
-use Rattle.writer.specs.Listed.{Count, zeros, refused, countListed, counted}
+use Rattle.writer.specs.Listed.{zeros, refused, countListed, counted}
 use Rattle.writer.specs.Pack.{zerosBefore, packBytes}
 use Rattle.writer.specs.Rules.{countRules, rangeRules, roomRule, writeAnswer}
 

@@ -1,6 +1,6 @@
 -- `check::check_correlations` meets its contract. The invariant: which rules are left, and how many zeros were met.
 -- Assumes nothing.
-use mathlib.Core.Path.{_≡_, ap, _∙_}
+use mathlib.Core.Path.{ap, _∙_}
 use Prim.Native.Nat.{_+_, _-_}
 use native.Mathlib.Omega.{arith}
 use borrow.Author.Needs.{needs}

@@ -4,10 +4,11 @@ use Prim.Native.Nat.{_+_, _-_, _≤_}
 use native.Mathlib.Omega.{arith}
 use borrow.Author.Needs.{needs}
 use lib.ListN.{length}
+use Rattle.answers.proofs.Runs.{Run, run-none, run-room, run-more, run-done}
 use Rattle.numbers.proofs.Bytes.{length-bytes}
 use Rattle.writer.specs.Pack.{deviationBytes}
 use Rattle.writer.proofs.Lengths.{length-4}
-use Rattle.writer.proofs.Runs.{Run, run-none, run-room, run-more, run-done, part-written}
+use Rattle.writer.proofs.Runs.{part-written}
 use Rattle.writer.proofs.elements.write_deviations.Statement.{statement}
 use Rattle.writer.proofs.elements.write_deviations.Tie as tie
 

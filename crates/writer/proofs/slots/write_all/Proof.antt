@@ -4,9 +4,9 @@ use mathlib.Core.Bool.{false}
 use Prim.Native.Nat.{_+_, _-_, _≤_}
 use native.Mathlib.Omega.{arith}
 use lib.ListN.{length}
+use Rattle.answers.proofs.Runs.{Run, run-none, run-room, run-more, run-done}
 use Rattle.numbers.proofs.Bytes.{length-bytes}
 use Rattle.writer.specs.Pack.{codeBytes}
-use Rattle.writer.proofs.Runs.{Run, run-none, run-room, run-more, run-done}
 use Rattle.writer.proofs.slots.write_all.Statement.{statement}
 use Rattle.writer.proofs.slots.write_all.Tie as tie
 

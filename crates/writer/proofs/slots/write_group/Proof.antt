@@ -5,7 +5,7 @@ use Prim.Native.Nat.{_+_, _-_, _*_, _≤_, _<_}
 use native.Mathlib.Omega.{arith}
 use borrow.Author.Needs.{needs}
 use lib.ListN.{length}
-use Rattle.writer.proofs.Runs.{run-none, run-room}
+use Rattle.answers.proofs.Runs.{run-none, run-room}
 use Rattle.writer.proofs.Sparse.{Eight, eight-byte, eight-room, eight-more, eight-done}
 use Rattle.writer.proofs.slots.write_group.Statement.{statement}
 use Rattle.writer.proofs.slots.write_group.Tie as tie

@@ -3,7 +3,7 @@
 use Prim.Native.Nat.{_+_, _-_, _<_}
 use native.Mathlib.Omega.{arith}
 use lib.ListN.{length}
-use Rattle.writer.proofs.Runs.{run-room}
+use Rattle.answers.proofs.Runs.{run-room}
 use Rattle.writer.proofs.Sparse.{Sent, sent-none, sent-long, sent-place, sent-more, sent-done}
 use Rattle.writer.proofs.slots.write_sent.Statement.{statement}
 use Rattle.writer.proofs.slots.write_sent.Tie as tie

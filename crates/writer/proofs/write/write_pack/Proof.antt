@@ -1,14 +1,13 @@
 -- `write::write_pack` meets its contract: the elements, each in its place, are the pack.
 -- Assumes nothing.
-use mathlib.Core.Path.{_≡_, sym, ap, _∙_}
-use mathlib.Core.List.{List, _++_}
-use Prim.Native.Nat.{_+_, _≤_, _^_, _<_}
+use mathlib.Core.Path.{_≡_, _∙_}
+use mathlib.Core.List.{_++_}
+use Prim.Native.Nat.{_+_}
 use native.Mathlib.Omega.{arith}
-use borrow.Author.Needs.{needs}
 use lib.ListN.{length}
-use lib.Seq.{sets, length-sets}
+use lib.Seq.{length-sets}
 use Rattle.writer.specs.Pack.{element1, element2, element3, element4, element5, formBytes}
-use Rattle.writer.proofs.Lengths.{length-1-2, length-3, length-4, length-5}
+use Rattle.writer.proofs.Lengths.{length-1-2, length-4}
 use Rattle.writer.proofs.Packed.{assembled}
 use Rattle.writer.proofs.write.write_pack.Statement.{statement}
 use Rattle.writer.proofs.write.write_pack.Tie as tie

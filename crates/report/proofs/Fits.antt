@@ -1,0 +1,114 @@
+-- No text is longer than the room that is asked for.
+-- Assumes nothing.
+use mathlib.Core.Path.{_≡_, refl, sym, ap, _∙_}
+use mathlib.Core.Bool.{Bool}
+use mathlib.Core.List.{List, [], _∷_, _++_}
+use Prim.Native.Nat.{ℕ, zero, suc, _+_, _-_, _*_, _≤_, _<_}
+use native.Mathlib.Numerals.{add-one}
+use native.Mathlib.Omega.{arith}
+use lib.Dec.{T, leb, leb→le}
+use lib.ListN.{length, getD, length-append}
+use Rattle.answers.specs.Lent.{joined}
+use Rattle.answers.specs.Table.{Entry, Answer, answer, pick}
+use Rattle.answers.proofs.Joined.{joined-le}
+use Rattle.answers.proofs.Rules.{picked}
+use Rattle.layout.specs.Triangle.{slotsOf, slotOf}
+use Rattle.layout.proofs.RowByRow.{row-next, row-within, slots-mono}
+use Rattle.reader.specs.Rules.{inTurn, readAnswer}
+use Rattle.report.specs.Lines.{plains, listedAfter, refusedLine, nLine, sLine, cLine, deviationLines, rowLines, slotLines, packLines}
+use Rattle.report.specs.Printed.{maxRows, maxSlots, room}
+use Rattle.report.specs.Text.{ascii, named, space, newline}
+use Rattle.report.proofs.Figures.{length-decimal, longest-decimal, length-hex}
+
+-- ---- the lines of a pack of few rows
+n-length : (n d m : ℕ) → n < 100 → d < 100 → m < 10000 → length (nLine n d m) ≤ 30
+n-length n d m h k l = simp length-append (omega (arith, length-decimal 1 n h, length-decimal 1 d k, length-decimal 3 m l))
+
+s-length : (i b : ℕ) → i < 100 → length (sLine i b) ≤ 22
+s-length i b h = simp length-append (omega (arith, length-decimal 1 i h, length-hex b))
+
+c-length : (i j p b : ℕ) → i < 100 → j < 100 → p < 10 → length (cLine i j p b) ≤ 27
+c-length i j p b h k l = simp length-append (omega (arith, length-decimal 1 i h, length-decimal 1 j k, length-decimal 0 p l, length-hex b))
+
+deviations-length : (ds : List ℕ) → length ds ≤ maxRows → length (deviationLines ds) ≤ length ds * 22
+deviations-length ds h = joined-le (λ i. sLine i (getD ds i 0)) 22 (length ds) (λ k l. s-length k (getD ds k 0) (omega arith))
+
+-- row by row
+module _ (n : ℕ) (cs ps : List ℕ) (few : n ≤ maxRows) (flags : (k : ℕ) → getD ps k 0 < 10) where
+  row-length : (i : ℕ) → i < n → length (rowLines n cs ps i) ≤ (n - 1 - i) * 27
+  row-length i h =
+      joined-le _ 27 (n - 1 - i)
+      (λ k l. c-length i (i + 1 + k) (getD ps (slotOf n i (i + 1 + k)) 0) (getD cs (slotOf n i (i + 1 + k)) 0) (omega arith) (omega arith) (flags _))
+
+  rows-length : (i : ℕ) → i ≤ n → length (joined i (rowLines n cs ps)) ≤ slotOf n i (i + 1) * 27
+  rows-length zero h = omega arith
+  rows-length (suc i) h =
+      let e = ap (λ (x : ℕ). slotOf n x (x + 1)) (sym (add-one i)) ∙ row-next n i h in
+      rw length-append (omega (arith, rows-length i (omega arith), row-length i h, e))
+
+  slots-length : length (slotLines n cs ps) ≤ slotsOf n * 27
+  slots-length = omega (arith, rows-length n (omega arith), row-within n n (omega arith))
+
+-- the slots of the most rows
+pub most-slots : slotsOf maxRows ≡ maxSlots
+unfolding slotsOf
+most-slots = refl
+
+-- a pack of so few rows fits
+pub pack-fits : (n : ℕ) (ds cs ps : List ℕ) → n ≤ maxRows → length ds ≤ maxRows → length cs ≡ slotsOf n → ((k : ℕ) → getD ps k 0 < 10)
+    → length (packLines n ds cs ps) ≤ room
+pack-fits n ds cs ps few rows slots flags =
+    let m : slotsOf n ≤ maxSlots = rw most-slots at (slots-mono {m = n} {n = maxRows} few) in
+    let a = nLine n (length ds) (length cs) in
+    omega (
+      arith,
+      length-append (a ++ deviationLines ds) (slotLines n cs ps),
+      length-append a (deviationLines ds),
+      n-length n (length ds) (length cs) (omega arith) (omega arith) (omega arith),
+      deviations-length ds rows,
+      slots-length n cs ps few flags,
+    )
+
+-- ---- a refusal
+-- each number takes a space and at most 20 digits
+after-length : (text ns : List ℕ) → length (listedAfter text ns) ≤ length text + 21 * length ns
+after-length text [] = omega arith
+after-length text (n ∷ ns) =
+    omega (arith, after-length (text ++ named space n) ns, length-append text (named space n), longest-decimal n)
+
+-- an answer that carries at most three numbers
+pub record Few (a : Answer) : Type 0 where
+  pub most : length (a .carries) ≤ 3
+
+-- as many numbers as entries
+length-plains : (es : List Entry) → length (plains es) ≡ length es
+length-plains [] = refl
+length-plains (e ∷ es) = ap suc (length-plains es)
+
+-- its line fits
+pub refused-fits : (a : Answer) → Few a → length (refusedLine a) ≤ room
+refused-fits a f =
+    let text = named (ascii "refused ") (a .number) in
+    omega (
+      arith,
+      length-append (listedAfter text (plains (a .carries))) newline,
+      after-length text (plains (a .carries)),
+      length-plains (a .carries),
+      f .most,
+      longest-decimal (a .number),
+    )
+
+-- every rule of the reader's order has such an answer
+few-answer : (m : ℕ) (es : List Entry) → T (leb (length es) 3) → Few (answer m es)
+few-answer m es t = record { most = leb→le (length es) 3 t }
+
+few-pick : (t : Bool) (a b : Answer) → Few a → Few b → Few (pick t a b)
+few-pick t a b p q = picked Few t a b (λ _. p) (λ _. q)
+
+few-turns : (bytes : List ℕ) (at size : ℕ) (format : Answer) → Few format → (n : ℕ) → Few (inTurn bytes at size format n)
+few-turns bytes at size format f zero = record { most = omega arith }
+few-turns bytes at size format f (suc n) = let q = few-turns bytes at size format f n in search (few-answer, few-pick)
+
+-- and so is the reader's, whatever it is
+pub few-read : (bytes : List ℕ) (ds cs ps : ℕ) → Few (readAnswer bytes ds cs ps)
+few-read bytes ds cs ps = search (few-answer, few-pick, few-turns) depth 20

@@ -1,0 +1,7 @@
+pub mod Put
+pub mod Figures
+pub mod Slots
+pub mod Fits
+pub mod Done
+pub mod OneAnswer
+pub mod Examples

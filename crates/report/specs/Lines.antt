@@ -1,0 +1,62 @@
+-- The lines that the program prints. Every line ends with a newline.
+use Prim.Native.Nat.{ℕ, _+_, _-_}
+use mathlib.Core.List.{List, [], _∷_, _++_}
+use lib.ListN.{length, getD}
+use Rattle.answers.specs.Table.{Entry, whole, bits64, Answer}
+use Rattle.answers.specs.Lent.{joined}
+use Rattle.layout.specs.Triangle.{slotOf}
+use Rattle.report.specs.Text.{ascii, space, newline, named, bitsEnd}
+
+-- more than this program reads
+abbrev pub tooBigLine : List ℕ
+tooBigLine = ascii "too big for this program\n"
+
+-- ---- a refusal: its number, then its numbers in decimal, one space between
+abbrev pub plain : Entry → ℕ
+plain (whole n) = n
+plain (bits64 b) = b
+
+abbrev pub plains : List Entry → List ℕ
+plains [] = []
+plains (e ∷ es) = plain e ∷ plains es
+
+-- what stands before them, and each of them behind it
+abbrev pub listedAfter : List ℕ → List ℕ → List ℕ
+listedAfter text [] = text
+listedAfter text (n ∷ ns) = listedAfter (text ++ named space n) ns
+
+abbrev pub numbersLine : ℕ → List ℕ → List ℕ
+numbersLine number ns = listedAfter (named (ascii "refused ") number) ns ++ newline
+
+abbrev pub refusedLine : Answer → List ℕ
+refusedLine a = numbersLine (a .number) (plains (a .carries))
+
+-- ---- a pack that was read
+-- N, the deviation count and M
+abbrev pub nLine : ℕ → ℕ → ℕ → List ℕ
+nLine n d m = named (ascii "n ") n ++ named (ascii " deviations ") d ++ named (ascii " slots ") m ++ newline
+
+-- row, bits
+abbrev pub sLine : ℕ → ℕ → List ℕ
+sLine i bits = named (ascii "s ") i ++ bitsEnd bits
+
+-- i, j, presence, bits
+abbrev pub cLine : ℕ → ℕ → ℕ → ℕ → List ℕ
+cLine i j present bits = named (ascii "c ") i ++ named space j ++ named space present ++ bitsEnd bits
+
+abbrev pub deviationLines : List ℕ → List ℕ
+deviationLines ds = joined (length ds) (λ i. sLine i (getD ds i 0))
+
+-- the slots row by row: of row i those of j from i+1 to N-1
+module _ (n : ℕ) (cs ps : List ℕ) where
+  abbrev pub slotLine : ℕ → ℕ → List ℕ
+  slotLine i j = cLine i j (getD ps (slotOf n i j) 0) (getD cs (slotOf n i j) 0)
+
+  abbrev pub rowLines : ℕ → List ℕ
+  rowLines i = joined (n - 1 - i) (λ k. slotLine i (i + 1 + k))
+
+  abbrev pub slotLines : List ℕ
+  slotLines = joined n rowLines
+
+abbrev pub packLines : ℕ → List ℕ → List ℕ → List ℕ → List ℕ
+packLines n ds cs ps = nLine n (length ds) (length cs) ++ deviationLines ds ++ slotLines n cs ps

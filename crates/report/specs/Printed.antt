@@ -1,0 +1,55 @@
+-- Document 01, "The program": which lines are printed for which input.
+use Prim.Native.Nat.{ℕ}
+use mathlib.Core.Bool.{Bool, false, _||_}
+use mathlib.Core.List.{List, [], _∷_}
+use lib.Dec.{eqb, ltb}
+use lib.ListN.{length}
+use Rattle.answers.specs.Table.{Answer, answer, wholes, pick}
+use Rattle.layout.specs.declared.size.Peek.{Peek}
+use Rattle.layout.specs.declared.size.Peek.the-variants.{Size, Nothing}
+use Rattle.layout.specs.Listed.{peeked}
+use Rattle.layout.specs.Size.{matrixSize}
+use Rattle.reader.specs.Elements.{headOf, deviations, correlations, presence}
+use Rattle.reader.specs.Rules.{readAnswer}
+use Rattle.report.specs.Lines.{tooBigLine, refusedLine, packLines}
+
+-- the most that is read: so many bytes, and so many rows, which have so many slots
+abbrev pub maxBytes : ℕ
+maxBytes = 20480
+
+abbrev pub maxRows : ℕ
+maxRows = 64
+
+abbrev pub maxSlots : ℕ
+maxSlots = 2016
+
+-- an N that peek gives
+abbrev pub isLarge : Peek → Bool
+isLarge (Size n) = ltb maxRows n
+isLarge Nothing = false
+
+module _ (bytes : List ℕ) where
+  abbrev pub isTooBig : Bool
+  isTooBig = ltb maxBytes (length bytes) || isLarge (peeked bytes)
+
+  -- the numbers that were read, or the refusal
+  abbrev pub answerLines : Answer → List ℕ
+  answerLines a =
+      pick (eqb (a .number) 0)
+      (packLines (matrixSize bytes) (deviations bytes (headOf bytes)) (correlations bytes (headOf bytes)) (presence bytes (headOf bytes)))
+      (refusedLine a)
+
+  abbrev pub readLines : List ℕ
+  readLines = answerLines (readAnswer bytes maxRows maxSlots maxSlots)
+
+  abbrev pub printed : List ℕ
+  printed = pick isTooBig tooBigLine readLines
+
+-- ---- printed into lent memory
+-- the room that is asked for, whatever is printed
+abbrev pub room : ℕ
+room = 65536
+
+-- less room: 5; otherwise done, with the text's length
+abbrev pub printAnswer : List ℕ → ℕ → Answer
+printAnswer bytes got = pick (ltb got room) (answer 5 (wholes (room ∷ got ∷ []))) (answer 0 (wholes (length (printed bytes) ∷ [])))

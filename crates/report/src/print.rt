@@ -1,0 +1,105 @@
+//! What the program prints.
+use crate::lines::put_pack;
+use crate::refusal::put_refusal;
+use crate::text::put_text;
+use answers::Refusal;
+use answers::Written;
+use layout::size::Peek;
+use layout::size::peek_matrix_size;
+use reader::read::ReadAnswer;
+use reader::read::decode_sdcc_flp;
+ghost use mathlib.Core.Path.{_≡_};
+ghost use mathlib.Core.Bool.{false};
+ghost use Prim.Native.Nat.{_≤_};
+ghost use lib.ListN.{length};
+ghost use Rattle.answers.specs.Listed.{written};
+ghost use Rattle.answers.specs.Lent.{leaves};
+ghost use Rattle.report.specs.Printed.{room, isTooBig, readLines, printed, printAnswer};
+ghost use Rattle.report.specs.Put.{Put};
+
+// The most that is read: so many bytes, and so many rows with their slots.
+const MAX_BYTES: usize = 20_480;
+
+const MAX_ROWS: usize = 64;
+
+const MAX_SLOTS: usize = 2016;
+
+// Any text fits.
+const ROOM: usize = 65_536;
+
+fn is_too_big(bytes: &[u8]) -> bool
+    ensures { λ r. ⌜ r ≡ isTooBig (now (bytes .entry)) ⌝ }
+{
+    if MAX_BYTES < bytes.len() {
+        return true;
+    }
+    let peek = peek_matrix_size(bytes);
+    let Peek::Size(n) = peek else {
+        return false;
+    };
+    MAX_ROWS < n as usize
+}
+
+// The arrays come from calls: the check would count the elements of one that is made where it is used.
+fn room_for_deviations() -> [u64; MAX_ROWS]
+    ensures { λ r. ⌜ 64 ≡ length r ⌝ }
+{
+    [0; MAX_ROWS]
+}
+
+fn room_for_correlations() -> [u64; MAX_SLOTS]
+    ensures { λ r. ⌜ 2016 ≡ length r ⌝ }
+{
+    [0; MAX_SLOTS]
+}
+
+fn room_for_presence() -> [u8; MAX_SLOTS]
+    ensures { λ r. ⌜ 2016 ≡ length r ⌝ }
+{
+    [0; MAX_SLOTS]
+}
+
+// The reader's answer.
+fn put_read(bytes: &[u8], out: &mut [u8]) -> usize
+    requires { ⌜ (isTooBig (now bytes) ≡ false) × (room ≤ length (now out)) ⌝ }
+    ensures { λ r. ⌜ Put (readLines (now (bytes .entry))) 0 (now (out .entry)) r (now (out .exit)) ⌝ }
+{
+    let mut deviations = room_for_deviations();
+    let mut correlations = room_for_correlations();
+    let mut presence = room_for_presence();
+    let read = decode_sdcc_flp(bytes, &mut deviations, &mut correlations, &mut presence);
+    match read {
+        ReadAnswer::Done(pack) => put_pack(
+            pack.matrix_size as usize,
+            &deviations[..pack.deviations],
+            &correlations[..pack.slots],
+            &presence[..pack.slots],
+            out,
+        ),
+        ReadAnswer::Refused(refusal) => put_refusal(refusal, out),
+    }
+}
+
+fn put_printed(bytes: &[u8], out: &mut [u8]) -> usize
+    requires { ⌜ room ≤ length (now out) ⌝ }
+    ensures { λ r. ⌜ Put (printed (now (bytes .entry))) 0 (now (out .entry)) r (now (out .exit)) ⌝ }
+{
+    if is_too_big(bytes) {
+        return put_text(b"too big for this program\n", 0, out);
+    }
+    put_read(bytes, out)
+}
+
+// What is printed for the pack that the bytes are, over the front of `out`.
+pub fn print_pack(bytes: &[u8], out: &mut [u8]) -> Written
+    ensures { λ r. ⌜ (written r ≡ printAnswer (now (bytes .entry)) (length (now (out .entry))))
+        × (now (out .exit) ≡ leaves (written r) (printed (now (bytes .entry))) (now (out .entry))) ⌝ }
+{
+    if out.len() < ROOM {
+        return Written::Refused(Refusal::BufferTooSmall {
+            needed: ROOM,
+            got: out.len(),
+        });
+    }
+    Written::Done(put_printed(bytes, out))
+}
