@@ -2,7 +2,7 @@
 use answers::Written;
 use report::print::print_pack;
 
-// One byte more than is printed of.
+// One byte more than the most that is read.
 const INPUT: usize = 20_481;
 
 // The array comes from a call: the check would count the elements of one that `main` makes itself.

@@ -13,7 +13,7 @@ use Rattle.report.proofs.print.print_pack.Statement.{statement}
 use Rattle.report.proofs.print.print_pack.Tie as tie
 
 returns : tie.Need-returns
-returns c = let n = length (c .before .before .before .args .out .now) in rw (lt-ltb n room (c .if1 .taken)) (refl, refl)
+returns c = let n = length (c .before .before .before .args .out .now) in rw (lt-ltb n room (omega arith)) (refl, refl)
 
 put-printed-requires : tie.Need-put-printed-requires
 put-printed-requires c κs = search needs
