@@ -2,6 +2,7 @@
 extern crate alloc;
 
 mod kinds;
+mod program;
 mod random;
 mod stand_in;
 
@@ -12,15 +13,15 @@ mod klv {
     include!(concat!(env!("OUT_DIR"), "/klv.rs"));
 }
 
-use kinds::{Case, KINDS};
+use kinds::{hex, print, Case, KINDS};
+use program::written;
 use random::Random;
 use std::env;
 use std::fs;
-use std::io::{self, Write};
+use std::io;
 use std::iter::repeat_n;
 use std::path::Path;
-use std::process::{Command, ExitCode, Stdio};
-use std::thread;
+use std::process::ExitCode;
 
 // How many differing answers are printed, and how much of a line.
 const SHOWN: usize = 10;
@@ -45,21 +46,7 @@ fn lines_of(cases: &[Case], line: fn(&Case) -> &str) -> String {
 // What the program writes when it is given the requests.
 fn asked(program: &[String], cases: &[Case]) -> io::Result<String> {
     let requests = lines_of(cases, |case| &case.request);
-    let mut child = Command::new(&program[0])
-        .args(&program[1..])
-        .stdin(Stdio::piped())
-        .stdout(Stdio::piped())
-        .spawn()?;
-    // from a thread of its own, since both pipes can fill
-    let mut input = child.stdin.take().unwrap();
-    let writer = thread::spawn(move || input.write_all(requests.as_bytes()));
-    let output = child.wait_with_output()?;
-    writer.join().unwrap()?;
-    if !output.status.success() {
-        let ended = format!("the program ended with {}", output.status);
-        return Err(io::Error::other(ended));
-    }
-    String::from_utf8(output.stdout).map_err(io::Error::other)
+    written(program, requests.into_bytes(), usize::MAX)
 }
 
 fn cut(line: &str) -> String {
@@ -120,6 +107,27 @@ fn three_bytes(program: &[String]) -> io::Result<ExitCode> {
     Ok(ExitCode::from(u8::from(differ > 0)))
 }
 
+// The program that prints a pack, run on one after the other.
+fn runs(seed: u64, program: &[String]) -> io::Result<ExitCode> {
+    let inputs = print::inputs(&mut Random::new(seed));
+    let mut differ = 0;
+    for input in &inputs {
+        let expected = print::printed(&input.bytes);
+        let printed = written(program, input.bytes.clone(), input.piece)?;
+        if printed == expected {
+            continue;
+        }
+        differ += 1;
+        if differ <= SHOWN {
+            println!("input {}", cut(&hex(&input.bytes)));
+            println!("  Rust  {}", cut(&format!("{expected:?}")));
+            println!("  port  {}", cut(&format!("{printed:?}")));
+        }
+    }
+    println!("sdcc: {} runs compared, {differ} differ", inputs.len());
+    Ok(ExitCode::from(u8::from(differ > 0)))
+}
+
 // The requests into sample.req, and the Rust's answers into sample.ans.
 fn sample(seed: u64, count: usize, folder: &Path) -> io::Result<ExitCode> {
     let cases = at_random(seed, count);
@@ -141,11 +149,14 @@ fn main() -> ExitCode {
         [mode, program @ ..] if mode == "--three-bytes" && !program.is_empty() => {
             three_bytes(program)
         }
+        [mode, seed, program @ ..] if mode == "--runs" && !program.is_empty() => {
+            runs(number(seed), program)
+        }
         [seed, count, program @ ..] if !program.is_empty() => {
             compare(number(seed), number(count) as usize, program)
         }
         _ => Err(io::Error::other(
-            "usage: compare SEED COUNT PROGRAM.. | compare --three-bytes PROGRAM.. | compare --sample SEED COUNT FOLDER",
+            "usage: compare SEED COUNT PROGRAM.. | compare --three-bytes PROGRAM.. | compare --runs SEED PROGRAM.. | compare --sample SEED COUNT FOLDER",
         )),
     };
     ended.unwrap_or_else(|error| {

@@ -2,17 +2,21 @@
 use crate::klv::imapb::ImapbParams;
 use crate::random::Random;
 
+mod cell;
 mod lent;
 mod map;
 mod mapped;
+mod matrices;
 mod narrow;
 mod oid;
 mod packs;
 mod packs_at_limits;
 mod packs_at_random;
 mod peek;
+pub mod print;
 mod read;
 mod special;
+mod usable;
 mod widen;
 mod write;
 mod write_at_limits;
@@ -33,7 +37,7 @@ pub struct Kind {
     pub share: usize,
 }
 
-pub const KINDS: [Kind; 9] = [
+pub const KINDS: [Kind; 12] = [
     oid::KIND,
     widen::KIND,
     narrow::KIND,
@@ -43,6 +47,9 @@ pub const KINDS: [Kind; 9] = [
     peek::KIND,
     read::KIND,
     write::KIND,
+    cell::KIND,
+    usable::KIND,
+    print::KIND,
 ];
 
 // Every string of three bytes that starts with this one, peeked at and read.
@@ -55,7 +62,7 @@ pub fn of_three(first: u8) -> Vec<Case> {
 }
 
 // A byte string as requests and answers spell it.
-fn hex(bytes: &[u8]) -> String {
+pub fn hex(bytes: &[u8]) -> String {
     if bytes.is_empty() {
         return "-".to_string();
     }

@@ -81,8 +81,13 @@ pub fn every_control() -> Vec<Vec<u8>> {
     packs
 }
 
-// Sizes up to the largest and beyond, with a Bit Vector and without.
+// Sizes up to the largest and beyond.
 pub fn every_size() -> Vec<Vec<u8>> {
+    of_sizes(1, &[3, 9, 17, 64, 255, 256, 257, (1 << 32) - 1])
+}
+
+// With a Bit Vector and without.
+pub fn of_sizes(seed: u64, sizes: &[u64]) -> Vec<Vec<u8>> {
     let layouts = [
         (true, 0, 0),
         (true, 0, 4),
@@ -92,9 +97,9 @@ pub fn every_size() -> Vec<Vec<u8>> {
         (false, 4, 4),
         (false, 8, 8),
     ];
-    let mut random = Random::new(1);
+    let mut random = Random::new(seed);
     let mut packs = Vec::new();
-    for n in [3, 9, 17, 64, 255, 256, 257, (1 << 32) - 1] {
+    for &n in sizes {
         for ((cf, clen, slen), cs) in layouts.into_iter().flat_map(|of| [(of, false), (of, true)]) {
             let control = Control::of(cs, cf, clen, slen);
             packs.extend(cut_at_ends(&mut random, n, control));

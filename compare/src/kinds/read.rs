@@ -21,18 +21,21 @@ pub const KIND: Kind = Kind {
 pub(super) type Rooms = [usize; 3];
 
 // As many as a request has to be taken with, and enough for what is small.
-const LARGEST: Rooms = [300, 33_000, 33_000];
+pub(super) const LARGEST: Rooms = [300, 33_000, 33_000];
 pub(super) const SMALL: Rooms = [9, 40, 40];
 
-pub(super) fn case(rooms: Rooms, bytes: &[u8]) -> Case {
-    let answer = match decode_sdcc_flp(bytes) {
+pub(super) fn answer(rooms: Rooms, bytes: &[u8]) -> String {
+    match decode_sdcc_flp(bytes) {
         Ok(read) => short(&read, rooms).unwrap_or_else(|| lines(bytes, &read)),
         Err(error) => refused(error),
-    };
+    }
+}
+
+pub(super) fn case(rooms: Rooms, bytes: &[u8]) -> Case {
     let [deviations, correlations, presence] = rooms;
     Case {
         request: format!("read {deviations} {correlations} {presence} {}", hex(bytes)),
-        answer,
+        answer: answer(rooms, bytes),
     }
 }
 

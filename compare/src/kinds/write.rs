@@ -19,7 +19,7 @@ pub const KIND: Kind = Kind {
 };
 
 // Both are added: the most rows that are written, and the Clen where none is named.
-const ROWS: usize = 256;
+pub const ROWS: usize = 256;
 const CLEN: usize = 2;
 
 // What is to be written, and the Clen where one is named.
@@ -30,11 +30,11 @@ pub struct Sent {
     pub correlations: Vec<u64>,
 }
 
-fn numbers(bits: &[u64]) -> Vec<f64> {
+pub fn numbers(bits: &[u64]) -> Vec<f64> {
     bits.iter().map(|&bits| f64::from_bits(bits)).collect()
 }
 
-fn list(bits: &[u64]) -> String {
+pub fn list(bits: &[u64]) -> String {
     let entries: String = bits.iter().map(|bits| format!(" {bits:016X}")).collect();
     format!("{}{entries}", bits.len())
 }
@@ -51,7 +51,7 @@ impl Sent {
     }
 
     // The pack, or the refusal before which no room is looked at.
-    fn written(&self) -> Result<Vec<u8>, String> {
+    pub fn written(&self) -> Result<Vec<u8>, String> {
         let rows = self.deviations.len();
         if rows > ROWS {
             return Err(format!("refused 6 {rows}"));
@@ -145,7 +145,7 @@ pub fn correlations(random: &mut Random, count: usize, zeros: usize) -> Vec<u64>
 }
 
 // Inside the range or outside, with what is no number.
-fn correlation(random: &mut Random, wanted: bool) -> u64 {
+pub fn correlation(random: &mut Random, wanted: bool) -> u64 {
     loop {
         let sign = random.below(2) << 63;
         let bits = match random.below(4) {
@@ -159,7 +159,7 @@ fn correlation(random: &mut Random, wanted: bool) -> u64 {
     }
 }
 
-fn deviation(random: &mut Random) -> u64 {
+pub fn deviation(random: &mut Random) -> u64 {
     match random.below(2) {
         0 => narrow::number(random),
         _ => (random.any_length(30) as f64 / 16.0).to_bits(),

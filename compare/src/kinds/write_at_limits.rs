@@ -7,8 +7,8 @@ use super::write::{correlations, deviations, inside, Sent};
 use super::Case;
 use crate::random::Random;
 
-const TWO: u64 = 0x4000 << 48;
-const HALF: u64 = 0x3FE << 52;
+pub const TWO: u64 = 0x4000 << 48;
+pub const HALF: u64 = 0x3FE << 52;
 
 // As many correlations as there are slots, so many of them 0.
 fn with_zeros(random: &mut Random, rows: usize, clen: Option<usize>, zeros: usize) -> Sent {
@@ -38,7 +38,7 @@ fn in_rooms(sent: &Sent) -> Vec<Case> {
     rooms.map(|room| sent.case(room)).collect()
 }
 
-fn documented() -> Vec<Case> {
+fn listed() -> Vec<Sent> {
     let mut random = Random::new(3);
     let mut p12 = of(1, 2, &[0]);
     p12.deviations = vec![ONE, TWO];
@@ -48,7 +48,19 @@ fn documented() -> Vec<Case> {
     for (rows, zeros) in [(9, 4), (9, 5), (17, 17), (17, 18)] {
         packs.push(with_zeros(&mut random, rows, Some(1), zeros));
     }
-    packs.iter().flat_map(in_rooms).collect()
+    packs
+}
+
+fn documented() -> Vec<Case> {
+    listed().iter().flat_map(in_rooms).collect()
+}
+
+// Those that document 01 has written.
+pub fn written() -> Vec<Vec<u8>> {
+    listed()
+        .iter()
+        .map(|sent| sent.written().unwrap())
+        .collect()
 }
 
 // Beside the count of zeros from which on a pack is sparse, at every Clen.

@@ -1,4 +1,5 @@
 //! Answers requests: a line of standard input each, and a line of standard output for each.
+mod cells;
 mod kind;
 mod lent;
 mod line;
@@ -8,6 +9,7 @@ mod output;
 mod pack_lines;
 mod packs;
 mod part;
+mod prints;
 mod refusal;
 mod requests;
 mod writes;
