@@ -16,7 +16,7 @@ use Rattle.reader.specs.Listed.{packAnswer, readListed}
 use Rattle.reader.proofs.read.decode_sdcc_flp.Reads as decode-sdcc-flp
 
 -- what determines the listed answer determines the enum
-pack-one : (p p′ : SdccFlp) → packAnswer p ≡ packAnswer p′ → p ≡ p′
+pub pack-one : (p p′ : SdccFlp) → packAnswer p ≡ packAnswer p′ → p ≡ p′
 pack-one p p′ e =
     let c = ap (λ (a : Answer). a .carries) e in
     let n : p .«matrix_size» ≡ p′ .«matrix_size» = cc in

@@ -1,22 +1,24 @@
 -- Looking up what the reader left: each cell gives the number that the pack's bytes hold for it.
 -- Assumes nothing.
-use mathlib.Core.Path.{_≡_, refl, _∙_}
+use mathlib.Core.Path.{_≡_, refl, sym, ap, _∙_}
 use mathlib.Core.List.{List}
 use Prim.Native.Nat.{ℕ, min, max, _-_, _≤_, _<_}
 use native.Mathlib.Omega.{arith}
 use lib.ListN.{length, drop, length-append, List·getD-append}
 use borrow.Author.Tests.{eq-eqb, ne-eqb}
 use Rattle.answers.specs.Lent.{over, tab}
-use Rattle.answers.specs.Table.{next}
+use Rattle.answers.specs.Table.{Answer, next}
 use Rattle.answers.proofs.Lent.{length-tab, getD-tab}
-use Rattle.answers.proofs.Next.{next-zero}
+use Rattle.answers.proofs.Next.{next-zero, next-passed}
 use Rattle.layout.specs.Size.{maxRows, matrixSize, controlOf, bodyAt, headRules, sizeRules, fitRules}
+use Rattle.layout.specs.declared.pack.SdccFlp.{SdccFlp}
 use Rattle.layout.specs.Triangle.{slotOf, slotsOf, IsPair}
 use Rattle.layout.proofs.Fits.{fits-tells}
 use Rattle.layout.proofs.RowByRow.{row-by-row}
 use Rattle.reader.specs.Elements.{headOf, deviationCount, deviations, correlations}
-use Rattle.reader.specs.Listed.{packOf}
+use Rattle.reader.specs.Listed.{packAnswer, packOf}
 use Rattle.reader.specs.Rules.{elementRules, roomRules, done, readAnswer}
+use Rattle.reader.proofs.OneAnswer.{pack-one}
 use Rattle.matrix.specs.Lookup.{number, entryAnswer}
 use Rattle.matrix.proofs.Cells.{entry-held, entry-none, no-row, no-column, diagonal, pair}
 use Rattle.trip.specs.Cells.{deviationRead, slotRead, cellRead, CellsRead}
@@ -76,3 +78,15 @@ rows-read bytes d c p e =
 -- every cell of a pack that was read
 pub cells-read : (bytes ds₀ cs₀ ps₀ : List ℕ) → readAnswer bytes (length ds₀) (length cs₀) (length ps₀) .number ≡ 0 → CellsRead bytes ds₀ cs₀
 cells-read bytes ds₀ cs₀ ps₀ e = cells bytes ds₀ cs₀ (rows-read bytes (length ds₀) (length cs₀) (length ps₀) e)
+
+-- the pack that the reader gives is the one looked up in
+pub pack-read : (bytes : List ℕ) (d c p : ℕ) (pack : SdccFlp) → packAnswer pack ≡ readAnswer bytes d c p → pack ≡ packOf (headOf bytes)
+pack-read bytes d c p pack e =
+    let h = headOf bytes in
+    let rooms = roomRules h d c p in
+    let elements = elementRules bytes h in
+    let fits = next-zero (fitRules bytes) (next elements (next rooms (done h))) (ap (λ (a : Answer). a .number) (sym e)) in
+    let held = next-zero elements (next rooms (done h)) (fits .1) in
+    let roomy = next-zero rooms (done h) (held .1) in
+    pack-one pack (packOf h)
+    (e ∙ next-passed (fitRules bytes) (next elements (next rooms (done h))) (fits .0) ∙ next-passed elements (next rooms (done h)) (held .0) ∙ next-passed rooms (done h) (roomy .0))
