@@ -1,0 +1,154 @@
+//! The Rust's side of what bench/run measures: the operation, the matrix and the figure of the program `pace`.
+mod matrix;
+
+use std::env;
+use tst_core::klv::st1010::{decode_sdcc_flp, encode_sdcc_flp_mode2, SdccFlp};
+use tst_core::peek_matrix_size;
+
+#[derive(Clone, Copy)]
+enum Op {
+    Read,
+    Write,
+    Peek,
+    Cell,
+    Each,
+    Idle,
+}
+
+struct Job {
+    op: Op,
+    rows: usize,
+    clen: usize,
+    sparse: bool,
+    reps: usize,
+}
+
+// What the operations change.
+struct State {
+    matrix: SdccFlp,
+    pack: Vec<u8>,
+}
+
+fn asked() -> Job {
+    let words: Vec<String> = env::args().skip(1).collect();
+    assert!(words.len() == 5, "usage: pace OP N CLEN KIND REPS");
+    let number = |i: usize| words[i].parse().expect("N, CLEN and REPS are numbers");
+    Job {
+        op: match words[0].as_str() {
+            "read" => Op::Read,
+            "write" => Op::Write,
+            "peek" => Op::Peek,
+            "cell" => Op::Cell,
+            "each" => Op::Each,
+            "idle" => Op::Idle,
+            _ => panic!("OP is read, write, peek, cell, each or idle"),
+        },
+        rows: number(1),
+        clen: number(2),
+        sparse: words[3] == "sparse",
+        reps: number(4),
+    }
+}
+
+fn written(matrix: &SdccFlp, clen: usize) -> Vec<u8> {
+    encode_sdcc_flp_mode2(&matrix.std_devs, &matrix.correlations, clen).expect("it is written")
+}
+
+fn add(figure: u64, word: u64) -> u64 {
+    (figure % (1 << 56) * 131) ^ word
+}
+
+// Another input each time, as `pace` has it.
+fn vary(state: &mut State) {
+    for numbers in [&mut state.matrix.std_devs, &mut state.matrix.correlations] {
+        if let Some(first) = numbers.first_mut() {
+            *first = -*first;
+        }
+    }
+    if let Some(last) = state.pack.last_mut() {
+        *last ^= 1;
+    }
+}
+
+// The figure with the cells of row i.
+fn of_row(from: u64, matrix: &SdccFlp, i: usize) -> u64 {
+    let mut figure = from;
+    for j in 0..matrix.std_devs.len() {
+        figure = add(figure, matrix.correlation(i, j).to_bits());
+    }
+    figure
+}
+
+fn of_matrix(matrix: &SdccFlp) -> u64 {
+    let mut figure = 0;
+    for i in 0..matrix.std_devs.len() {
+        figure = of_row(figure, matrix, i);
+    }
+    figure
+}
+
+fn read(state: &mut State) -> u64 {
+    state.matrix = decode_sdcc_flp(&state.pack).expect("it is read");
+    state.matrix.correlations.len() as u64
+}
+
+fn write(state: &mut State, clen: usize) -> u64 {
+    state.pack = written(&state.matrix, clen);
+    state.pack.len() as u64
+}
+
+fn peek(state: &State) -> u64 {
+    peek_matrix_size(&state.pack).expect("it has a size") as u64
+}
+
+fn each(state: &mut State, clen: usize) -> u64 {
+    let slots = read(state);
+    let length = write(state, clen);
+    let rows = peek(state);
+    add(add(add(slots, length), rows), of_matrix(&state.matrix))
+}
+
+fn once(job: &Job, state: &mut State) -> u64 {
+    match job.op {
+        Op::Read => read(state),
+        Op::Write => write(state, job.clen),
+        Op::Peek => peek(state),
+        Op::Cell => of_matrix(&state.matrix),
+        Op::Each => each(state, job.clen),
+        Op::Idle => 0,
+    }
+}
+
+fn repeat(job: &Job, state: &mut State) -> u64 {
+    let mut sum = 0;
+    for left in (0..job.reps).rev() {
+        vary(state);
+        sum = add(sum, once(job, state));
+        let correlations = &state.matrix.correlations;
+        sum = add(sum, correlations[left % correlations.len()].to_bits());
+        sum = add(sum, state.pack[left % state.pack.len()].into());
+    }
+    sum
+}
+
+fn main() {
+    let job = asked();
+    let matrix = matrix::made(job.rows, job.sparse);
+    let pack = written(&matrix, job.clen);
+    // element 2 stands behind one byte of N, or two
+    let control = pack[if job.rows < 128 { 1 } else { 2 }];
+    assert_eq!(
+        control & 0x20 != 0,
+        job.sparse,
+        "the pack is of the other kind"
+    );
+    let mut state = State { matrix, pack };
+    let repeated = repeat(&job, &mut state);
+    let State { matrix, pack } = state;
+    let numbers = matrix.std_devs.iter().chain(&matrix.correlations);
+    let of_numbers = numbers.fold(repeated, |figure, x| add(figure, x.to_bits()));
+    let presence = matrix.correlation_present.iter().map(|&said| said.into());
+    let bytes = presence.chain(pack.iter().map(|&byte| byte.into()));
+    let figure = bytes.fold(of_numbers, add);
+    println!("pack {} figure {figure}", pack.len());
+}

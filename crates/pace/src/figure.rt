@@ -1,0 +1,36 @@
+//! The figure: a number that depends on everything that was made, so that no compiler can leave any of it out.
+
+// What a refusal adds.
+pub(crate) const REFUSED: u64 = u64::MAX;
+
+// One word more.
+pub(crate) fn add(figure: u64, word: u64) -> u64 {
+    (figure % 0x100_0000_0000_0000 * 131) ^ word
+}
+
+// One byte more. It is widened here, where it need not be shown to fit.
+pub(crate) fn add_byte(figure: u64, byte: u8) -> u64 {
+    add(figure, byte as u64)
+}
+
+// Every word.
+pub(crate) fn of_words(from: u64, words: &[u64]) -> u64 {
+    let mut figure = from;
+    let mut i: usize = 0;
+    while i < words.len() {
+        figure = add(figure, words[i]);
+        i += 1;
+    }
+    figure
+}
+
+// Every byte.
+pub(crate) fn of_bytes(from: u64, bytes: &[u8]) -> u64 {
+    let mut figure = from;
+    let mut i: usize = 0;
+    while i < bytes.len() {
+        figure = add_byte(figure, bytes[i]);
+        i += 1;
+    }
+    figure
+}

@@ -1,0 +1,103 @@
+//! Does one operation of the codec over and over, so that its cost can be measured: pace OP N CLEN KIND REPS (bench/run).
+mod cells;
+mod figure;
+mod job;
+mod part;
+mod sample;
+mod turns;
+
+use answers::Written;
+use job::Job;
+use layout::triangle::corr_slots;
+use part::within;
+use part::within_words;
+use writer::write::encode_sdcc_flp_mode2;
+
+// The largest pack: N = 256, and Clen = 8.
+const ROWS: usize = 256;
+
+const SLOTS: usize = 32_640;
+
+const BYTES: usize = 300_000;
+
+// Makes the matrix and its pack, and answers the pack's length, or 0 where there is none.
+fn make(job: Job, deviations: &mut [u64], correlations: &mut [u64], room: &mut [u8]) -> usize {
+    sample::fill_deviations(deviations);
+    sample::fill_correlations(correlations, job.sparse);
+    match encode_sdcc_flp_mode2(deviations, correlations, job.clen, room) {
+        Written::Done(length) => length,
+        Written::Refused(_) => 0,
+    }
+}
+
+// Does the job; the figure is then taken over all that it leaves.
+fn measured(
+    job: Job,
+    deviations: &mut [u64],
+    correlations: &mut [u64],
+    presence: &mut [u8],
+    pack: &mut [u8],
+) -> u64 {
+    let repeated = turns::repeat(job, deviations, correlations, presence, pack);
+    let over_deviations = figure::of_words(repeated, deviations);
+    let over_correlations = figure::of_words(over_deviations, correlations);
+    let over_presence = figure::of_bytes(over_correlations, presence);
+    figure::of_bytes(over_presence, pack)
+}
+
+// The job, on rooms of the matrix's own size.
+fn run(
+    job: Job,
+    deviations: &mut [u64],
+    correlations: &mut [u64],
+    presence: &mut [u8],
+    room: &mut [u8],
+) {
+    let made = make(job, deviations, correlations, room);
+    let length = within(made, room);
+    let figure = measured(job, deviations, correlations, presence, &mut room[..length]);
+    print(b"pack ", length as u64);
+    print(b" figure ", figure);
+    io::write_all(libc::STDOUT_FILENO, b"\n");
+}
+
+fn print(text: &[u8], value: u64) {
+    io::write_all(libc::STDOUT_FILENO, text);
+    io::print_decimal(libc::STDOUT_FILENO, value);
+}
+
+// The arrays come from calls: the check would count the elements of one that `main` makes itself.
+fn room_for_deviations() -> [u64; ROWS] {
+    [0; ROWS]
+}
+
+fn room_for_correlations() -> [u64; SLOTS] {
+    [0; SLOTS]
+}
+
+fn room_for_presence() -> [u8; SLOTS] {
+    [0; SLOTS]
+}
+
+fn room_for_pack() -> [u8; BYTES] {
+    [0; BYTES]
+}
+
+fn main() {
+    let mut deviations = room_for_deviations();
+    let mut correlations = room_for_correlations();
+    let mut presence = room_for_presence();
+    let mut pack = room_for_pack();
+    let job = job::asked();
+    let rows = within_words(job.rows, &deviations);
+    let slots = corr_slots(rows as u32) as usize;
+    let sent = within_words(slots, &correlations);
+    let said = within(slots, &presence);
+    run(
+        job,
+        &mut deviations[..rows],
+        &mut correlations[..sent],
+        &mut presence[..said],
+        &mut pack,
+    );
+}

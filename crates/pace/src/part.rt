@@ -1,0 +1,24 @@
+//! The front of a slice.
+ghost use Rattle.io.specs.Counts.{Counts};
+
+// The count, or the slice's length where that is less, so that `&bytes[..n]` leaves nothing to show.
+pub(crate) fn within(count: usize, bytes: &[u8]) -> usize
+    ensures { λ r. ⌜ Counts r (now (bytes .entry)) ⌝ }
+{
+    if count < bytes.len() {
+        count
+    } else {
+        bytes.len()
+    }
+}
+
+// The same of words.
+pub(crate) fn within_words(count: usize, words: &[u64]) -> usize
+    ensures { λ r. ⌜ Counts r (now (words .entry)) ⌝ }
+{
+    if count < words.len() {
+        count
+    } else {
+        words.len()
+    }
+}
