@@ -32,6 +32,11 @@ getD-tab (suc n) f k h =
     (λ l. let b : k < length (tab n f) = rw (length-tab n f) l in List·getD-append (tab n f) (f n ∷ []) 0 k b ∙ getD-tab n f k l)
     (eq-or-lt-of-le (le-of-suc-le-suc h))
 
+-- lists of equal numbers
+pub tab-same : (n : ℕ) {f g : ℕ → ℕ} → ((k : ℕ) → k < n → f k ≡ g k) → tab n f ≡ tab n g
+tab-same zero h = refl
+tab-same (suc n) h = rw (tab-same n (λ k l. h k (omega arith)), h n (omega arith))
+
 -- ---- a loop that stores the entries of `front` over l₀, after i turns
 pub record Front (front l₀ : List ℕ) (i : ℕ) (l : List ℕ) : Type 0 where
   pub within : i ≤ length front

@@ -1,13 +1,15 @@
--- Laws of runs of stores, `sets` of the kit: one behind the other, and two that do not meet in either order.
+-- Laws of runs of stores, `sets` of the kit: one behind the other, two that do not meet in either order, and one over another.
 -- Assumes nothing.
 use mathlib.Core.Path.{_≡_, refl, ap, _∙_}
 use mathlib.Core.List.{List, [], _∷_, _++_}
 use Prim.Native.Nat.{ℕ, suc, _+_, _≤_, _<_}
 use native.Mathlib.Nat.{add-zero, zero-add}
+use native.Mathlib.Numerals.{add-one}
 use native.Mathlib.Omega.{arith}
 use lib.ListN.{length, set}
-use lib.Seq.{sets, sets-eq, set-comm}
-use Rattle.answers.specs.Lent.{over}
+use lib.Seq.{sets, sets-eq, set-comm, set-set}
+use Rattle.answers.specs.Lent.{over, tab}
+use Rattle.answers.proofs.Lent.{length-tab}
 
 -- what is stored from the front on
 pub sets-over : (front l : List ℕ) → length front ≤ length l → sets l 0 front ≡ over front l
@@ -20,6 +22,10 @@ sets-more l i (a ∷ x) y =
     let e : i + suc (length x) ≡ suc i + length x = omega arith in
     rw e (sets-more (set l i a) (suc i) x y)
 
+-- one store more behind a run of them
+pub sets-tab : (l : List ℕ) (at i : ℕ) (f : ℕ → ℕ) → set (sets l at (tab i f)) (at + i) (f i) ≡ sets l at (tab (i + 1) f)
+sets-tab l at i f = rw (add-one, sets-more, length-tab i f)
+
 -- a store before a run
 set-swap : (l : List ℕ) (i a j : ℕ) (y : List ℕ) → i < j → sets (set l i a) j y ≡ set (sets l j y) i a
 set-swap l i a j [] h = refl
@@ -30,3 +36,14 @@ pub sets-swap : (l : List ℕ) (i : ℕ) (x : List ℕ) (j : ℕ) (y : List ℕ)
 sets-swap l i [] j y h = refl
 sets-swap l i (a ∷ x) j y h =
     sets-swap (set l i a) (suc i) x j y (omega arith) ∙ ap (λ (m : List ℕ). sets m (suc i) x) (set-swap l i a j y (omega arith))
+
+-- a run over another that is no longer
+again : (l : List ℕ) (i : ℕ) (y z : List ℕ) → length y ≤ length z → sets (sets l i y) i z ≡ sets l i z
+again l i [] z h = refl
+again l i (a ∷ y) [] h = absurd (omega arith)
+again l i (a ∷ y) (b ∷ z) h =
+    rw (← (set-swap (set l i a) i b (suc i) y (omega arith)), set-set) (again (set l i b) (suc i) y z (omega arith))
+
+-- and behind a third
+pub sets-cover : (l : List ℕ) (i : ℕ) (x y z : List ℕ) → length y ≤ length z → sets (sets l i (x ++ y)) (i + length x) z ≡ sets l i (x ++ z)
+sets-cover l i x y z h = rw (sets-more, sets-more) (again (sets l i x) (i + length x) y z h)

@@ -10,6 +10,7 @@ pub mod UnitRange
 pub mod Law
 pub mod Written
 pub mod Zeros
+pub mod NoNan
 pub mod Exact
 pub mod ReadBack
 pub mod OneAnswer

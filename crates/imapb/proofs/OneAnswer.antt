@@ -19,6 +19,7 @@ use Rattle.imapb.proofs.decode.decode_imapb.Reads as decode-imapb
 use Rattle.imapb.proofs.encode.check_range.Reads as check-range
 use Rattle.imapb.proofs.encode.imapb_code.Reads as imapb-code
 use Rattle.imapb.proofs.encode.encode_imapb.Reads as encode-imapb
+use Rattle.imapb.proofs.mapping.imapb_mapping.Reads as imapb-mapping
 use Rattle.imapb.proofs.special.encode_imapb_special.Reads as encode-imapb-special
 
 -- what determines the listed answer determines the enum
@@ -44,3 +45,6 @@ encode-imapb-one κs a r r′ s s′ p q =
 pub encode-imapb-special-one : OneAnswer encode-imapb-special.Learnt (λ κs s. now (s .1 .1 .0))
 encode-imapb-special-one κs a r r′ s s′ p q =
     writer-one (λ x. leaves x (bytesOf (a .1 .0) (specialCode (a .1 .0) (a .0))) (now (a .1 .1 .0))) r r′ p q
+
+pub imapb-mapping-one : OneResult imapb-mapping.Learnt
+imapb-mapping-one κs a r r′ s s′ p q = p ∙ sym q

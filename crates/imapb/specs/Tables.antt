@@ -14,7 +14,10 @@ use Rattle.imapb.specs.declared.decode.ImapbRead.{ImapbRead}
 use Rattle.imapb.specs.declared.decode.ImapbRead.the-variants.{Done, Refused}
 use Rattle.imapb.specs.declared.encode.ImapbCode.{ImapbCode}
 use Rattle.imapb.specs.declared.encode.ImapbCode.the-variants as imapb
-use Rattle.imapb.specs.Mapping.{one, minusOne, codeOf, inRange}
+use Rattle.imapb.specs.declared.mapping.Mapping.{Mapping}
+use Rattle.imapb.specs.declared.mapping.ImapbMapping.{ImapbMapping}
+use Rattle.imapb.specs.declared.mapping.ImapbMapping.the-variants as mapping
+use Rattle.imapb.specs.Mapping.{one, minusOne, scaleOf, topOf, codeOf, inRange}
 use Rattle.imapb.specs.Special.{payload, reading}
 
 -- done carries what the code reads as
@@ -44,6 +47,13 @@ rangeRule v =
 -- the code alone, where there is one
 abbrev pub imapbCode : ℕ → ℕ → ImapbCode
 imapbCode L v = pick (supported L && inRange (ofBits binary64 v)) (imapb.Of (codeOf L (ofBits binary64 v))) imapb.Nothing
+
+-- what the length decides, where it has codes
+abbrev pub mappingOf : ℕ → Mapping
+mappingOf L = record { length = L; scale = scaleOf L; top = topOf L }
+
+abbrev pub imapbMapping : ℕ → ImapbMapping
+imapbMapping L = pick (supported L) (mapping.Of (mappingOf L)) mapping.Nothing
 
 abbrev pub imapbWritten : ℕ → ℕ → ℕ → Answer
 imapbWritten L v room =

@@ -1,19 +1,22 @@
 -- Words and their bytes: each is read back from what the other was written as.
 -- Assumes nothing.
 use mathlib.Core.Path.{_≡_, refl, sym, ap, _∙_}
-use mathlib.Core.List.{List, [], _∷_}
+use mathlib.Core.List.{List, [], _∷_, _++_}
 use Prim.Native.Nat.{ℕ, zero, suc, _*_, _+_, _-_, _/_, _%_, _^_, _≤_, _<_}
 use native.Mathlib.Nat.{pow-le-pow-right, pow-suc, mod-eq-of-lt, mod-lt, le-trans, one-mul, zero-mul, zero-add, one-le-pow}
 use native.Mathlib.Omega.{arith}
 use lib.ListN.{length, getD}
-use lib.Pow.{pow-add}
+use lib.Pow.{pow-add, pow-pos, mod-mod-pow}
 use Rattle.numbers.specs.Words.{wordOf, bytesOf}
-use Rattle.numbers.specs.Digits.{Below}
-use Rattle.numbers.proofs.Digits.{length-digits, spelt-lt, spelt-high, spelt-digits, digits-spelt}
+use Rattle.numbers.specs.Digits.{spelt, Below}
+use Rattle.numbers.proofs.Digits.{spelt-append, length-digits, spelt-lt, spelt-high, spelt-low, spelt-digits, digits-spelt}
 
 -- eight bytes hold no more than 64 bits
 within : {n k : ℕ} → n < 256 ^ k → k ≤ 8 → n % 2 ^ 64 ≡ n
 within {n} {k} h e = mod-eq-of-lt (le-trans h (pow-le-pow-right {n = 256} (omega arith) {i = k} {j = 8} e))
+
+spelt-within : (l : List ℕ) → length l ≤ 8 → spelt 256 0 l % 2 ^ 64 ≡ spelt 256 0 l
+spelt-within l h = within (rw one-mul at (spelt-lt 256 (omega arith) {a = 0} {m = 1} (omega arith) l)) h
 
 pub length-bytes : (k n : ℕ) → length (bytesOf k n) ≡ k
 unfolding bytesOf
@@ -26,7 +29,7 @@ word-of-bytes k n h =
 
 pub bytes-of-word : (l : List ℕ) → length l ≤ 8 → Below 256 l → bytesOf (length l) (wordOf l) ≡ l
 unfolding wordOf bytesOf
-bytes-of-word l h b = rw (within (rw one-mul at (spelt-lt 256 (omega arith) {a = 0} {m = 1} (omega arith) l)) h) (digits-spelt 256 l b)
+bytes-of-word l h b = rw (spelt-within l h) (digits-spelt 256 l b)
 
 -- the place of a byte, in bits
 pub bits : (k : ℕ) → 256 ^ k ≡ 2 ^ (8 * k)
@@ -39,5 +42,16 @@ unfolding wordOf
 first-byte [] o h b = absurd (omega arith)
 first-byte (d ∷ l) o h b =
     let p : 8 * suc (length l) - 8 ≡ 8 * length l = omega arith in
-    let q = within (rw one-mul at (spelt-lt 256 (omega arith) {a = 0} {m = 1} (omega arith) (d ∷ l))) h in
-    rw (q, p, ← (bits (length l)), spelt-high 256 (omega arith) (0 * 256 + d % 256) l) (omega arith)
+    rw (spelt-within (d ∷ l) h, p, ← (bits (length l)), spelt-high 256 (omega arith) (0 * 256 + d % 256) l) (omega arith)
+
+-- the last bytes of a word
+pub last-bytes : (l m : List ℕ) → length m ≤ 8 → wordOf (l ++ m) % 2 ^ (8 * length m) ≡ wordOf m
+unfolding wordOf
+last-bytes l m h =
+    let k = 8 * length m in
+    let p : 64 - k + k ≡ 64 = omega arith in
+    let e = rw p at (mod-mod-pow (spelt 256 0 (l ++ m)) (64 - k) k) in
+    rw (spelt-within m h, e, ← (bits (length m)), spelt-append) (spelt-low 256 (omega arith) (spelt 256 0 l) m)
+
+pub word-lt : (l : List ℕ) → length l ≤ 8 → wordOf l < 2 ^ (8 * length l)
+word-lt l h = rw (← (last-bytes [] l h)) (mod-lt (wordOf l) (pow-pos (8 * length l)))

@@ -3,7 +3,7 @@
 use mathlib.Core.Path.{_≡_, refl}
 use mathlib.Core.List.{List, [], _∷_, _++_, append-nil}
 use Prim.Native.Nat.{ℕ, zero, suc, _+_, _*_, _-_, _/_, _%_, _^_, _≤_, _<_}
-use native.Mathlib.Nat.{pow-suc, pow-succ', pow-zero, div-one, div-div-eq-div-mul, mul-one, mul-assoc, add-mul, mod-one, mod-mod, mod-lt, add-zero, zero-add, zero-mul, mod-eq-of-lt, le-trans, one-le-pow, mul-add-mod-self-right, le-mul-of-pos-right}
+use native.Mathlib.Nat.{pow-suc, pow-succ', pow-zero, div-one, div-div-eq-div-mul, mul-one, mul-assoc, add-mul, mod-one, mod-mod, mod-lt, add-zero, zero-add, zero-mul, one-mul, mod-eq-of-lt, le-trans, one-le-pow, mul-add-mod-self-right, le-mul-of-pos-right}
 use native.Mathlib.Numerals.{add-one}
 use native.Mathlib.Omega.{arith}
 use lib.Arith.{digits-lt, digits-div, digits-mod, mod-mul}
@@ -58,6 +58,17 @@ module _ (base : ℕ) where
     spelt-high a (d ∷ ds) =
         let b = mod-lt d positive in
         rw (pow-suc, ← div-div-eq-div-mul, spelt-high (a * base + d % base) ds) (digits-div a b)
+
+    -- and what they spell by themselves
+    spelt-onto : (a : ℕ) (l : List ℕ) → spelt base a l ≡ a * base ^ length l + spelt base 0 l
+    spelt-onto a [] = rw pow-zero (omega arith)
+    spelt-onto a (d ∷ ds) =
+        rw (spelt-onto (a * base + d % base) ds, spelt-onto (0 * base + d % base) ds, pow-succ') (omega arith)
+
+    pub spelt-low : (a : ℕ) (l : List ℕ) → spelt base a l % base ^ length l ≡ spelt base 0 l
+    spelt-low a l =
+        let h = rw one-mul at (spelt-lt {a = 0} {m = 1} (omega arith) l) in
+        rw (spelt-onto a l, mul-add-mod-self-right) (mod-eq-of-lt h)
 
     -- more digits never spell less
     pub spelt-take-le : (a : ℕ) {j k : ℕ} (l : List ℕ) → j ≤ k → spelt base a (take j l) ≤ spelt base a (take k l)

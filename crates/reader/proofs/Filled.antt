@@ -3,16 +3,18 @@
 use mathlib.Core.Path.{_≡_, refl, sym, ap, _∙_}
 use mathlib.Core.Bool.{Bool, true, false}
 use mathlib.Core.List.{List}
-use Prim.Native.Nat.{ℕ, _+_, _-_, _*_, _≤_, _<_}
-use native.Mathlib.Nat.{zero-mul, suc-mul, add-mul, mul-comm, mul-le-mul-right}
+use Prim.Native.Nat.{ℕ, zero, suc, _+_, _-_, _*_, _≤_, _<_}
+use native.Mathlib.Nat.{add-zero, zero-mul, suc-mul, add-mul, mul-comm, mul-le-mul-right}
 use native.Mathlib.Numerals.{add-one}
 use native.Mathlib.Omega.{arith}
 use borrow.Author.Tests.{le-ltb}
 use lib.ListN.{length, set}
+use lib.Seq.{sets}
 use Rattle.answers.specs.declared.Refusal.{Refusal}
 use Rattle.answers.specs.Lent.{over, tab}
 use Rattle.answers.specs.Table.{Answer, pick, passes}
 use Rattle.answers.proofs.Lent.{length-tab, getD-tab, Front, front-none, front-more, front-done}
+use Rattle.answers.proofs.Stored.{sets-more}
 use Rattle.layout.specs.declared.control.ParseControl.{ParseControl}
 use Rattle.reader.specs.declared.number.Number.{Number}
 use Rattle.reader.specs.declared.number.Number.the-variants.{Bits, Refused}
@@ -37,6 +39,14 @@ module _ (n : ℕ) (f : ℕ → ℕ) {l₀ : List ℕ} where
     pub tab-done : n ≤ i → l ≡ over (tab n f) l₀
     tab-done h = front-done p (omega (arith, p .within, length-tab n f))
 
+  -- a run of m entries more
+  pub tab-run : {i : ℕ} {l : List ℕ} → Front (tab n f) l₀ i l → (m : ℕ) {g : ℕ → ℕ} → i + m ≤ n → ((j : ℕ) → j < m → g j ≡ f (i + j))
+      → Front (tab n f) l₀ (i + m) (sets l i (tab m g))
+  tab-run p zero h e = rw add-zero p
+  tab-run {i} {l} p (suc m) {g} h e =
+      let q : i + suc m ≡ i + m + 1 = omega arith in
+      rw (q, sets-more, length-tab m g) (tab-more (tab-run p m (omega arith) (λ j k. e j (omega arith))) (omega arith) (e m (omega arith)))
+
 -- ---- what a turn has: the number that it reads, and where it moves on to
 pub record Turn (bytes : List ℕ) (number : Read) (value moved next : ℕ) : Type 0 where
   pub read : number ≡ bits value
@@ -56,7 +66,7 @@ element-held : (bytes : List ℕ) (at size value : ℕ) {format : Answer} → at
     → element bytes at size format value ≡ bits value
 element-held bytes at size value h f = rw (le-ltb (length bytes - at) size (omega arith), f)
 
-ends : {i n : ℕ} (at size : ℕ) → i < n → at + i * size + size ≤ at + n * size
+pub ends : {i n : ℕ} (at size : ℕ) → i < n → at + i * size + size ≤ at + n * size
 ends {i} at size h = omega (arith, suc-mul i size, mul-le-mul-right size h)
 
 module _ (bytes : List ℕ) (at : ℕ) (c : ParseControl) where

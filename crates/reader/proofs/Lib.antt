@@ -1,7 +1,9 @@
+pub mod CodesRead
 pub mod Decided
 pub mod Filled
 pub mod Held
 pub mod InTurn
+pub mod Marked
 pub mod OneAnswer
 pub mod Peeked
 pub mod Vector

@@ -73,14 +73,17 @@ present-le bytes at c zero = go (eqb (c .clen) 0) (c .cs)
     go false false = omega arith
 present-le bytes at c (suc k) = rw (present-more bytes at c k) (omega (arith, present-le bytes at c k, present-step (presentIn bytes at c k)))
 
+pub ones-grow : (bytes : List ℕ) (at : ℕ) {j k : ℕ} → j ≤ k → onesBefore bytes at j ≤ onesBefore bytes at k
+ones-grow bytes at {j} {k} h = let e : j + (k - j) ≡ k = omega arith in rw e at (go (k - j))
+  where
+    go : (d : ℕ) → onesBefore bytes at j ≤ onesBefore bytes at (j + d)
+    go zero = rw add-zero (omega arith)
+    go (suc d) = rw add-suc (omega (arith, go d))
+
 pub present-grows : (bytes : List ℕ) (at : ℕ) (c : ParseControl) {j k : ℕ} → j ≤ k → presentBefore bytes at c j ≤ presentBefore bytes at c k
 present-grows bytes at c {j} {k} h = go (eqb (c .clen) 0) (c .cs)
   where
-    ones-grow : (d : ℕ) → onesBefore bytes at j ≤ onesBefore bytes at (j + d)
-    ones-grow zero = rw add-zero (omega arith)
-    ones-grow (suc d) = rw add-suc (omega (arith, ones-grow d))
-
     go : (none sparse : Bool) → pick none 0 (pick sparse (onesBefore bytes at j) j) ≤ pick none 0 (pick sparse (onesBefore bytes at k) k)
     go true sparse = omega arith
-    go false true = let e : j + (k - j) ≡ k = omega arith in rw e at (ones-grow (k - j))
+    go false true = ones-grow bytes at h
     go false false = h

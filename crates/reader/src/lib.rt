@@ -2,7 +2,9 @@
 mod decide;
 mod fill;
 mod head;
+mod mapped;
 mod number;
 mod present;
 pub mod read;
+mod slots;
 mod turns;

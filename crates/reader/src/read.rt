@@ -2,10 +2,10 @@
 use crate::decide::check_rooms;
 use crate::decide::decide;
 use crate::fill::fill_deviations;
-use crate::fill::fill_slots;
 use crate::head::Head;
 use crate::head::pack_of;
 use crate::head::places_of;
+use crate::slots::fill_slots;
 use answers::Check;
 use answers::Refusal;
 use layout::header::Header;

@@ -10,6 +10,7 @@ use lib.ListN.{length}
 use borrow.Author.Tests.{le-leb, le-ltb, ne-eqb}
 use Rattle.answers.specs.Table.{pick, passes}
 use Rattle.answers.specs.Lent.{tab}
+use Rattle.answers.proofs.Lent.{tab-same}
 use Rattle.layout.specs.Size.{maxRows, matrixSize, sizeRules, fitRules}
 use Rattle.layout.specs.Triangle.{slotsOf}
 use Rattle.reader.specs.Elements.{presentBefore, headOf, deviationCount}
@@ -20,12 +21,7 @@ use Rattle.trip.specs.Back.{Back}
 use Rattle.trip.proofs.Found.{found}
 use Rattle.trip.proofs.Values.{values-found}
 
--- lists of equal numbers
-pub tab-same : (n : ℕ) {f g : ℕ → ℕ} → ((k : ℕ) → k < n → f k ≡ g k) → tab n f ≡ tab n g
-tab-same zero h = refl
-tab-same (suc n) h = rw (tab-same n (λ k l. h k (omega arith)), h n (omega arith))
-
--- and of an equal count
+-- lists of an equal count of equal numbers
 tab-is : {m n : ℕ} {f g : ℕ → ℕ} → m ≡ n → ((k : ℕ) → k < n → f k ≡ g k) → tab m f ≡ tab n g
 tab-is {n = n} e h = rw e (tab-same n h)
 

@@ -15,11 +15,12 @@ use Rattle.numbers.proofs.conversions.nearest_binary64.Reads as nearest-binary6
 use Rattle.numbers.proofs.conversions.binary64_to_binary32.Reads as binary64-to-binary32
 use Rattle.numbers.proofs.conversions.binary32_to_binary64.Reads as binary32-to-binary64
 use Rattle.numbers.proofs.conversions.whole_part.Reads as whole-part
-use Rattle.imapb.proofs.OneAnswer.{decode-imapb-one, check-range-one, imapb-code-one, encode-imapb-one, encode-imapb-special-one}
+use Rattle.imapb.proofs.OneAnswer.{decode-imapb-one, check-range-one, imapb-code-one, imapb-mapping-one, encode-imapb-one, encode-imapb-special-one}
 use Rattle.imapb.proofs.decode.decode_imapb.Reads as decode-imapb
 use Rattle.imapb.proofs.encode.check_range.Reads as check-range
 use Rattle.imapb.proofs.encode.imapb_code.Reads as imapb-code
 use Rattle.imapb.proofs.encode.encode_imapb.Reads as encode-imapb
+use Rattle.imapb.proofs.mapping.imapb_mapping.Reads as imapb-mapping
 use Rattle.imapb.proofs.special.encode_imapb_special.Reads as encode-imapb-special
 use Rattle.layout.proofs.OneAnswer.{parse-mode1-one, parse-mode2-one, read-header-one, check-matrix-size-fits-one, peek-matrix-size-one, corr-slots-one, triangle-slot-one}
 use Rattle.layout.proofs.control.parse_mode1.Reads as parse-mode1
@@ -57,6 +58,7 @@ pub record Determined : Type 0 where
   pub decode-imapb-determined : OneResult decode-imapb.Learnt
   pub check-range-determined : OneResult check-range.Learnt
   pub imapb-code-determined : OneResult imapb-code.Learnt
+  pub imapb-mapping-determined : OneResult imapb-mapping.Learnt
   pub encode-imapb-determined : OneAnswer encode-imapb.Learnt (λ κs s. now (s .1 .1 .0))
   pub encode-imapb-special-determined : OneAnswer encode-imapb-special.Learnt (λ κs s. now (s .1 .1 .0))
   -- layout
@@ -95,6 +97,7 @@ determined =
       decode-imapb-determined = decode-imapb-one;
       check-range-determined = check-range-one;
       imapb-code-determined = imapb-code-one;
+      imapb-mapping-determined = imapb-mapping-one;
       encode-imapb-determined = encode-imapb-one;
       encode-imapb-special-determined = encode-imapb-special-one;
       parse-mode1-determined = parse-mode1-one;

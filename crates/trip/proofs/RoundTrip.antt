@@ -15,7 +15,7 @@ use lib.Ieee.Bits.{is-true, ofBits-toBits, ofBits-fits}
 use lib.Ieee.Fits.{sub-fits}
 use Rattle.answers.specs.Table.{answer, wholes, pick, passes}
 use Rattle.answers.specs.Lent.{tab}
-use Rattle.answers.proofs.Lent.{length-tab, getD-tab}
+use Rattle.answers.proofs.Lent.{length-tab, getD-tab, tab-same}
 use Rattle.numbers.proofs.Patterns.{subnormal-value}
 use Rattle.imapb.specs.Mapping.{value, inRange, codeOf, valueOf}
 use Rattle.imapb.proofs.Above.{Lies, Over}
@@ -32,7 +32,7 @@ use Rattle.writer.proofs.Whole.{all-pass}
 use Rattle.trip.specs.Values.{correlationKept}
 use Rattle.trip.specs.Back.{Back}
 use Rattle.trip.specs.RoundTrip.{rounding, above, below, NearTo, Sendable, Returned, RoundTrip}
-use Rattle.trip.proofs.Back.{tab-same, back}
+use Rattle.trip.proofs.Back.{back}
 use Rattle.trip.proofs.Rounding.{kept-rounding, rounding-value}
 
 -- ---- what can be sent passes the writer's rules

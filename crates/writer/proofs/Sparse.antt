@@ -14,6 +14,7 @@ use Rattle.answers.specs.Table.{pick}
 use Rattle.answers.specs.Lent.{tab, joined}
 use Rattle.answers.proofs.Lent.{length-tab}
 use Rattle.answers.proofs.Joined.{joined-add, joined-rest}
+use Rattle.answers.proofs.Stored.{sets-tab}
 use Rattle.answers.proofs.Runs.{Run, run-none, run-room, run-more, run-under, run-end, run-done}
 use Rattle.numbers.specs.Digits.{spelt}
 use Rattle.numbers.specs.Words.{bytesOf}
@@ -22,7 +23,6 @@ use Rattle.numbers.proofs.Digits.{spelt-append, spelt-lt}
 use Rattle.imapb.specs.Mapping.{codeOf}
 use Rattle.writer.specs.Pack.{isZero, sent, vectorByte, element3, codeBytes, element5}
 use Rattle.writer.specs.Fill.{sentBytes, groupBytes, groupBits}
-use Rattle.writer.proofs.Runs.{tab-more}
 
 -- ---- what `zero_of` answers tells
 pub is-one : (b : Bool) {r : ℕ} → r ≡ pick b 1 0 → r ≡ 1 → b ≡ true
@@ -126,7 +126,7 @@ module _ {cs : List ℕ} {L vector codes : ℕ} {l₀ : List ℕ} where
       pub sent-more : {x b : ℕ} → x ≡ next + length (groupBytes cs (8 * i) L) → b ≡ groupBits cs (8 * i) → Sent cs L vector codes l₀ (i + 1) (set m (vector + i) b) x
       sent-more p q =
           record {
-            run = rw (q, ← (tab-more l₀ vector i (vectorByte true cs)))
+            run = rw (q, ← (sets-tab l₀ vector i (vectorByte true cs)))
                 (run-under (run-more (e .run) h g p) (vector + i) (vectorByte true cs i) (omega (arith, e .behind)));
             behind = e .behind;
           }

@@ -3,21 +3,20 @@
 use mathlib.Core.Path.{_≡_}
 use mathlib.Core.List.{List}
 use Prim.Native.Nat.{ℕ, _-_, _^_, _<_}
-use native.Mathlib.Nat.{one-mul, add-sub-cancel-left}
+use native.Mathlib.Nat.{add-sub-cancel-left}
 use native.Mathlib.Omega.{arith}
 use borrow.Author.Needs.{needs}
 use borrow.Author.Tests.{lt-ltb, le-ltb, ne-eqb}
 use lib.ListN.{length, length-take, length-drop}
 use Rattle.numbers.specs.Words.{wordOf}
-use Rattle.numbers.proofs.Digits.{spelt-lt}
+use Rattle.numbers.proofs.Bytes.{word-lt}
 use Rattle.reader.specs.Elements.{part}
 use Rattle.reader.proofs.number.ieee_at.Statement.{statement}
 use Rattle.reader.proofs.number.ieee_at.Tie as tie
 
 -- four bytes hold 32 bits
 word-32 : (l : List ℕ) → length l ≡ 4 → wordOf l < 2 ^ 32
-unfolding wordOf
-word-32 l e = omega (arith, rw (one-mul, e) at (spelt-lt 256 (omega arith) {a = 0} {m = 1} (omega arith) l))
+word-32 l e = rw e at (word-lt l (omega arith))
 
 left-requires : tie.Need-left-requires
 left-requires c κs = search needs

@@ -45,7 +45,7 @@ returns c =
 fill-slots-requires : tie.Need-fill-slots-requires
 fill-slots-requires c κs =
     let s = c .before .before .before .before .before .before .before .before .before .before .before .before .before .before .before in
-    rw (c .before .before .before .before .before .before .before .before .before .pack-of .ensures, c .before .before .before .before .before .before .before .before .places-of .ensures .1) (all-held s .slots, has-room s .correlations, has-room s .presence)
+    rw (c .before .before .before .before .before .before .before .before .before .pack-of .ensures, c .before .before .before .before .before .before .before .before .places-of .ensures .1) (all-held s .slots, λ e. rw e at (s .pre .0 .vector), has-room s .correlations, has-room s .presence)
 
 enum-told-3 : tie.Need-enum-told-3
 enum-told-3 c = search needs

@@ -20,9 +20,10 @@ use Rattle.imapb.specs.declared.decode.DecodedImapb.{DecodedImapb}
 use Rattle.imapb.specs.declared.decode.DecodedImapb.the-variants.{Value}
 use Rattle.imapb.specs.declared.decode.ImapbRead.{ImapbRead}
 use Rattle.imapb.specs.declared.decode.ImapbRead.the-variants.{Done, Refused}
+use Rattle.imapb.proofs.NoNan.{value-number}
 use Rattle.imapb.proofs.decode.DecodedImapb.{the-type}
 use Rattle.trip.proofs.Stood.{done-front}
-use Rattle.trip.proofs.Coded.{value-number, code-written, code-read}
+use Rattle.trip.proofs.Coded.{code-written, code-read}
 use borrow.Author.Needs.{needs}
 use Rattle.trip.proofs.compare.value_back.Statement.{statement}
 use Rattle.trip.proofs.compare.value_back.Tie as tie

@@ -1,4 +1,4 @@
--- `fill::fill_slots` meets its contract: each turn stores whether the slot is present, and its number, whose code is there if it is.
+-- `slots::fill_plain` meets its contract: each turn stores whether the slot is present, and its number, whose code is there if it is.
 -- Assumes nothing.
 use mathlib.Core.Path.{_≡_, refl}
 use Prim.Native.Nat.{ℕ, _-_}
@@ -8,8 +8,8 @@ use Rattle.answers.specs.Lent.{tab}
 use Rattle.answers.proofs.Lent.{Front}
 use Rattle.reader.specs.Elements.{correlationIn, presenceIn}
 use Rattle.reader.proofs.Filled.{tab-none, tab-room, tab-more, tab-done, turn-value, turn-never, codeAt, first-code, SlotTurn, slot-turn}
-use Rattle.reader.proofs.fill.fill_slots.Statement.{statement}
-use Rattle.reader.proofs.fill.fill_slots.Tie as tie
+use Rattle.reader.proofs.slots.fill_plain.Statement.{statement}
+use Rattle.reader.proofs.slots.fill_plain.Tie as tie
 
 abbrev Inv-loop : tie.InvT-loop
 Inv-loop bytes vector codes control slots correlations₀ presence₀ size next₀ k₀ correlations presence next k =
@@ -127,8 +127,8 @@ returns-2 c =
     let i = c .before .loop .inv in
     (refl, tab-done (s .args .slots) (correlation s) (i .0) (c .loop-test .left), tab-done (s .args .slots) (presence s) (i .1) (c .loop-test .left))
 
-pub fill-slots-spec : {M : Type 1} → statement M
-fill-slots-spec =
+pub fill-plain-spec : {M : Type 1} → statement M
+fill-plain-spec =
     tie.close
     (tie.spec
     Inv-loop

@@ -1,0 +1,127 @@
+-- `slots::fill_group` meets its contract: each turn stores an absent slot, and over it the next code's number where the slot's bit is set.
+-- Assumes nothing.
+use mathlib.Core.Logic.{⊎-elim}
+use Prim.Native.Nat.{_+_, _-_, _≤_, _<_}
+use native.Mathlib.Omega.{arith}
+use lib.ListN.{length, length-set}
+use Rattle.reader.specs.Fill.{Maps}
+use Rattle.reader.proofs.Marked.{Group, group-none, group-long, group-code, group-set, group-unset, group-done}
+use Rattle.reader.proofs.slots.fill_group.Statement.{statement}
+use Rattle.reader.proofs.slots.fill_group.Tie as tie
+
+abbrev Inv-loop : tie.InvT-loop
+Inv-loop bytes byte at mapping from count correlations₀ presence₀ next₀ j₀ correlations presence next j =
+    Group byte bytes at mapping from count correlations₀ presence₀ j correlations presence next
+
+abbrev μ-loop : tie.MeasureT-loop
+μ-loop bytes byte at mapping from count correlations₀ presence₀ next₀ j₀ correlations presence next j =
+    count - j
+
+abbrev start : tie.At-loop Inv-loop μ-loop → tie.Start Inv-loop μ-loop
+start c = c .before .before .before .before
+
+loop-holds : tie.Need-loop-holds Inv-loop μ-loop
+loop-holds c = group-none
+
+add-k : tie.Need-add-k Inv-loop μ-loop
+add-k c = omega arith
+
+mul-correlations : tie.Need-mul-correlations Inv-loop μ-loop
+mul-correlations c = omega arith
+
+-- the turn's slot is there, in both
+room : (c : tie.In-loop Inv-loop μ-loop)
+    → let k = start (c .before) .args .from + c .before .loop .j in
+    (k < length (c .before .loop .correlations)) × (k < length (c .before .loop .presence))
+room c =
+    let l = group-long (c .before .loop .inv) in (omega (arith, l .0), omega (arith, l .1))
+
+slice-write-correlations : tie.Need-slice-write-correlations Inv-loop μ-loop
+slice-write-correlations c = room c .0
+
+slice-write-presence : tie.Need-slice-write-presence Inv-loop μ-loop
+slice-write-presence c = room c .1
+
+sub-if1 : tie.Need-sub-if1 Inv-loop μ-loop
+sub-if1 c = omega arith
+
+cast-if1 : tie.Need-cast-if1 Inv-loop μ-loop
+cast-if1 c = omega arith
+
+shr-if1 : tie.Need-shr-if1 Inv-loop μ-loop
+shr-if1 c = omega arith
+
+-- the next code
+there : (c : tie.Then1 Inv-loop μ-loop)
+    → let l = c .before .before in
+    let a = start l .args in
+    Maps (a .mapping) × (8 ≤ l .loop .next) × (l .loop .next + a .mapping .length ≤ length (a .bytes .now))
+there c =
+    let w = c .before in
+    let p = start (w .before) .pre in
+    group-code (w .before .loop .inv) (w .loop-test .taken) (p .1) (c .if1 .taken) (p .0)
+
+mapped-at-requires : tie.Need-mapped-at-requires Inv-loop μ-loop
+mapped-at-requires c κs = there c
+
+mul-correlations-2 : tie.Need-mul-correlations-2 Inv-loop μ-loop
+mul-correlations-2 c = omega arith
+
+slice-write-correlations-2 : tie.Need-slice-write-correlations-2 Inv-loop μ-loop
+slice-write-correlations-2 c = rw length-set (room (c .before .before) .0)
+
+slice-write-presence-2 : tie.Need-slice-write-presence-2 Inv-loop μ-loop
+slice-write-presence-2 c = rw length-set (room (c .before .before) .1)
+
+add-next : tie.Need-add-next Inv-loop μ-loop
+add-next c = omega (arith, there (c .before .before))
+
+add-j : tie.Need-add-j Inv-loop μ-loop
+add-j c = omega arith
+
+loop-less : tie.Need-loop-less Inv-loop μ-loop
+loop-less c = omega arith
+
+loop-again : tie.Need-loop-again Inv-loop μ-loop
+loop-again c =
+    let w = c .before in
+    let g = w .before .loop .inv in
+    let most = start (w .before) .pre .1 in
+    ⊎-elim (λ a. rw (a .3, a .4, a .5) (group-set g (w .loop-test .taken) most (a .0 .taken) (a .1 .ensures)))
+    (λ a. rw (a .1, a .2, a .3) (group-unset g (w .loop-test .taken) most (a .0 .left)))
+    (c .if1 .came)
+
+same-length : tie.Need-same-length Inv-loop μ-loop
+same-length c = group-long (c .before .loop .inv) .0
+
+same-length-2 : tie.Need-same-length-2 Inv-loop μ-loop
+same-length-2 c = group-long (c .before .loop .inv) .1
+
+returns : tie.Need-returns Inv-loop μ-loop
+returns c = group-done (c .before .loop .inv) (c .loop-test .left)
+
+pub fill-group-spec : {M : Type 1} → statement M
+fill-group-spec =
+    tie.close
+    (tie.spec
+    Inv-loop
+    μ-loop
+    loop-holds
+    add-k
+    mul-correlations
+    slice-write-correlations
+    slice-write-presence
+    sub-if1
+    cast-if1
+    shr-if1
+    mapped-at-requires
+    mul-correlations-2
+    slice-write-correlations-2
+    slice-write-presence-2
+    add-next
+    add-j
+    loop-less
+    loop-again
+    same-length
+    same-length-2
+    returns)
