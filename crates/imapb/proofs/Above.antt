@@ -47,7 +47,7 @@ module _ (f : Format) (x shift : Float) (g w : ℕ) (h : Counts f x false g) (k 
   unfolding sum
   sub-up d e = sub-is ∙ rw (le-ltb g w (omega arith)) (ap (λ (z : ℕ). round f false z (2 ^ low f)) (omega arith))
 
-  sub-down : (d : ℕ) → 0 < d → g + d ≡ w → sub f x shift ≡ round f true d (2 ^ low f)
+  pub sub-down : (d : ℕ) → 0 < d → g + d ≡ w → sub f x shift ≡ round f true d (2 ^ low f)
   unfolding sum
   sub-down d D e = sub-is ∙ rw (lt-ltb g w (omega arith)) (ap (λ (z : ℕ). round f true z (2 ^ low f)) (omega arith))
 

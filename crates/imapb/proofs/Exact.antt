@@ -28,7 +28,7 @@ cross : (x : Float) (s : Bool) (a c b d : ℕ) → HasValue x s a c → HasValue
 cross x s a c b d h = by-value (λ (z : Float). HasValue z s b d → a * d ≡ b * c) s a c
     (λ m e k g. eq-of-mul-eq-mul-right (down e) (down-pos e) (a * d) (b * c) (omega (arith, ap (λ (z : ℕ). z * d) k, ap (λ (z : ℕ). z * c) (g .1)))) x h
 
-again : (x : Float) (s : Bool) (a c b d : ℕ) → 0 < c → HasValue x s a c → a * d ≡ b * c → HasValue x s b d
+pub again : (x : Float) (s : Bool) (a c b d : ℕ) → 0 < c → HasValue x s a c → a * d ≡ b * c → HasValue x s b d
 again x s a c b d C h q = by-value (λ (z : Float). HasValue z s b d) s a c
     (λ m e k. (refl, eq-of-mul-eq-mul-right c C (m * up e * d) (b * down e) (omega (arith, ap (λ (z : ℕ). z * d) k, ap (λ (z : ℕ). z * down e) q)))) x h
 

@@ -7,11 +7,13 @@ pub mod Above
 pub mod Near
 pub mod Mapped
 pub mod UnitRange
+pub mod Steps
 pub mod Law
 pub mod Written
 pub mod Zeros
 pub mod NoNan
 pub mod Exact
+pub mod Eight
 pub mod ReadBack
 pub mod OneAnswer
 pub mod Examples

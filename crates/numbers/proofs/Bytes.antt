@@ -5,11 +5,12 @@ use mathlib.Core.List.{List, [], _∷_, _++_}
 use Prim.Native.Nat.{ℕ, zero, suc, _*_, _+_, _-_, _/_, _%_, _^_, _≤_, _<_}
 use native.Mathlib.Nat.{pow-le-pow-right, pow-suc, mod-eq-of-lt, mod-lt, le-trans, one-mul, zero-mul, zero-add, one-le-pow}
 use native.Mathlib.Omega.{arith}
-use lib.ListN.{length, getD}
+use lib.ListN.{length, drop, getD}
+use lib.Seq.{drop-at}
 use lib.Pow.{pow-add, pow-pos, mod-mod-pow}
 use Rattle.numbers.specs.Words.{wordOf, bytesOf}
-use Rattle.numbers.specs.Digits.{spelt, Below}
-use Rattle.numbers.proofs.Digits.{spelt-append, length-digits, spelt-lt, spelt-high, spelt-low, spelt-digits, digits-spelt}
+use Rattle.numbers.specs.Digits.{spelt, digits, Below}
+use Rattle.numbers.proofs.Digits.{spelt-append, length-digits, digits-split, spelt-lt, spelt-high, spelt-low, spelt-digits, digits-spelt}
 
 -- eight bytes hold no more than 64 bits
 within : {n k : ℕ} → n < 256 ^ k → k ≤ 8 → n % 2 ^ 64 ≡ n
@@ -55,3 +56,14 @@ last-bytes l m h =
 
 pub word-lt : (l : List ℕ) → length l ≤ 8 → wordOf l < 2 ^ (8 * length l)
 word-lt l h = rw (← (last-bytes [] l h)) (mod-lt (wordOf l) (pow-pos (8 * length l)))
+
+-- the first bytes are those of the quotient
+pub bytes-front : (j m n : ℕ) → j ≤ m → bytesOf m n ≡ bytesOf j (n / 2 ^ (8 * m - 8 * j)) ++ drop j (bytesOf m n)
+unfolding bytesOf
+bytes-front j m n h =
+    let k = m - j in
+    let e : j + k ≡ m = omega arith in
+    let b : 256 ^ k ≡ 2 ^ (8 * m - 8 * j) = bits k ∙ ap (λ (x : ℕ). 2 ^ x) (omega arith) in
+    let s = rw (e, b) at (digits-split 256 0 j k n) in
+    let d = drop-at (digits 256 0 j (n / 2 ^ (8 * m - 8 * j))) (digits 256 0 k n) j (length-digits 256 0 j (n / 2 ^ (8 * m - 8 * j))) in
+    s ∙ ap (λ (l : List ℕ). digits 256 0 j (n / 2 ^ (8 * m - 8 * j)) ++ l) (sym (ap (λ (l : List ℕ). drop j l) s ∙ d))

@@ -1,9 +1,9 @@
 -- The laws of `spelt` and `digits`, over every base, mark and width.
 -- Assumes nothing.
 use mathlib.Core.Path.{_≡_, refl}
-use mathlib.Core.List.{List, [], _∷_, _++_, append-nil}
+use mathlib.Core.List.{List, [], _∷_, _++_, append-nil, append-assoc}
 use Prim.Native.Nat.{ℕ, zero, suc, _+_, _*_, _-_, _/_, _%_, _^_, _≤_, _<_}
-use native.Mathlib.Nat.{pow-suc, pow-succ', pow-zero, div-one, div-div-eq-div-mul, mul-one, mul-assoc, add-mul, mod-one, mod-mod, mod-lt, add-zero, zero-add, zero-mul, one-mul, mod-eq-of-lt, le-trans, one-le-pow, mul-add-mod-self-right, le-mul-of-pos-right}
+use native.Mathlib.Nat.{pow-suc, pow-succ', pow-zero, div-one, div-div-eq-div-mul, mul-one, mul-assoc, add-mul, mod-one, mod-mod, mod-lt, add-zero, add-suc, zero-add, zero-mul, one-mul, mod-eq-of-lt, le-trans, one-le-pow, mul-add-mod-self-right, le-mul-of-pos-right}
 use native.Mathlib.Numerals.{add-one}
 use native.Mathlib.Omega.{arith}
 use lib.Arith.{digits-lt, digits-div, digits-mod, mod-mul}
@@ -24,6 +24,12 @@ module _ (base : ℕ) where
   pub length-digits : (mark k n : ℕ) → length (digits base mark k n) ≡ k
   length-digits mark zero n = refl
   length-digits mark (suc k) n = rw (length-append, length-digits mark k (n / base)) (add-one k)
+
+  -- the digits above, and those below
+  pub digits-split : (mark j k n : ℕ) → digits base mark (j + k) n ≡ digits base mark j (n / base ^ k) ++ digits base mark k n
+  digits-split mark j zero n = rw (add-zero, pow-zero, div-one, append-nil)
+  digits-split mark j (suc k) n =
+      rw (add-suc, digits-split mark j k (n / base), div-div-eq-div-mul, ← pow-succ', append-assoc)
 
   digits-onto : (j a : ℕ) (l : List ℕ) → Below base l → digits base 0 (j + length l) (spelt base a l) ≡ digits base 0 j a ++ l
   digits-onto j a [] h = rw (add-zero, append-nil)

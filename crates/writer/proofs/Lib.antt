@@ -1,3 +1,4 @@
+pub mod AllSlots
 pub mod Checked
 pub mod Coded
 pub mod EqualZero
@@ -6,6 +7,10 @@ pub mod Lengths
 pub mod OneAnswer
 pub mod Packed
 pub mod Places
+pub mod Raised
 pub mod Runs
+pub mod SentWords
 pub mod Sparse
+pub mod Spill
 pub mod Whole
+pub mod Words

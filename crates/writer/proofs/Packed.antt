@@ -43,5 +43,6 @@ module _ (ds cs : List ℕ) (L room : ℕ) (rows : length ds ≤ maxRows) (slots
         vector = sym (length-1-2 (length ds) (omega arith) (isSparse ds cs L) L);
         deviations = rw length-3;
         codes = rw length-4;
-        within = rw length-5 (omega (arith, plan-end));
+        end = rw length-5;
+        within = omega (arith, plan-end);
       }

@@ -2,9 +2,9 @@
 -- Assumes nothing.
 use mathlib.Core.Path.{_≡_, refl, sym, _∙_}
 use mathlib.Core.Bool.{Bool, true, false, not}
-use mathlib.Core.List.{List, []}
-use Prim.Native.Nat.{ℕ, zero, suc, _+_, _-_, _*_, _/_, _%_, _≤_, _<_}
-use native.Mathlib.Nat.{one-mul, le-trans, pow-le-pow-right}
+use mathlib.Core.List.{List, [], _++_, append-nil, append-assoc}
+use Prim.Native.Nat.{ℕ, zero, suc, _+_, _-_, _*_, _/_, _%_, _^_, _≤_, _<_}
+use native.Mathlib.Nat.{zero-add, add-zero, add-suc, add-assoc, one-mul, le-trans, pow-le-pow-right}
 use native.Mathlib.Numerals.{add-one}
 use native.Mathlib.Omega.{arith}
 use lib.ListN.{length, getD, set, List·getD-eq-default}
@@ -13,7 +13,7 @@ use lib.Ieee.{binary64, ofBits}
 use Rattle.answers.specs.Table.{pick}
 use Rattle.answers.specs.Lent.{tab, joined}
 use Rattle.answers.proofs.Lent.{length-tab}
-use Rattle.answers.proofs.Joined.{joined-add, joined-rest}
+use Rattle.answers.proofs.Joined.{joined-rest}
 use Rattle.answers.proofs.Stored.{sets-tab}
 use Rattle.answers.proofs.Runs.{Run, run-none, run-room, run-more, run-under, run-end, run-done}
 use Rattle.numbers.specs.Digits.{spelt}
@@ -21,8 +21,8 @@ use Rattle.numbers.specs.Words.{bytesOf}
 use Rattle.numbers.proofs.Bytes.{length-bytes}
 use Rattle.numbers.proofs.Digits.{spelt-append, spelt-lt}
 use Rattle.imapb.specs.Mapping.{codeOf}
-use Rattle.writer.specs.Pack.{isZero, sent, vectorByte, element3, codeBytes, element5}
-use Rattle.writer.specs.Fill.{sentBytes, groupBytes, groupBits}
+use Rattle.writer.specs.Pack.{isZero, sent, vectorByte, codeBytes, element5}
+use Rattle.writer.specs.Fill.{sentBytes, groupBytes, groupBits, groups}
 
 -- ---- what `zero_of` answers tells
 pub is-one : (b : Bool) {r : ℕ} → r ≡ pick b 1 0 → r ≡ 1 → b ≡ true
@@ -34,22 +34,22 @@ not-one true e h = absurd (h e)
 not-one false e h = refl
 
 -- ---- the bits of j slots
-abbrev bitsOf : (ℕ → Bool) → ℕ → ℕ
+abbrev pub bitsOf : (ℕ → Bool) → ℕ → ℕ
 bitsOf b j = spelt 2 0 (tab j (λ k. pick (b k) 1 0))
 
 bit-mod : (b : Bool) → pick b 1 0 % 2 ≡ pick b 1 0
 bit-mod true = refl
 bit-mod false = refl
 
-bits-more : (b : ℕ → Bool) (j : ℕ) → bitsOf b (j + 1) ≡ bitsOf b j * 2 + pick (b j) 1 0
+pub bits-more : (b : ℕ → Bool) (j : ℕ) → bitsOf b (j + 1) ≡ bitsOf b j * 2 + pick (b j) 1 0
 bits-more b j = rw (add-one, spelt-append, bit-mod (b j))
+
+pub bits-low : (b : ℕ → Bool) (j : ℕ) → bitsOf b j < 2 ^ j
+bits-low b j = rw (length-tab j (λ k. pick (b k) 1 0), one-mul) at (spelt-lt 2 (omega arith) {a = 0} {m = 1} (omega arith) (tab j (λ k. pick (b k) 1 0)))
 
 -- eight of them fit a byte
 bits-fit : (b : ℕ → Bool) (j : ℕ) → j ≤ 8 → bitsOf b j < 256
-bits-fit b j h =
-    le-trans
-    (rw (length-tab j (λ k. pick (b k) 1 0), one-mul) at (spelt-lt 2 (omega arith) {a = 0} {m = 1} (omega arith) (tab j (λ k. pick (b k) 1 0))))
-    (pow-le-pow-right {n = 2} (omega arith) {i = j} {j = 8} h)
+bits-fit b j h = le-trans (bits-low b j) (pow-le-pow-right {n = 2} (omega arith) {i = j} {j = 8} h)
 
 -- a slot that is not sent has no bytes
 sent-length : (b : Bool) (L n : ℕ) → length (pick b (bytesOf L n) []) ≡ pick b 1 0 * L
@@ -84,54 +84,83 @@ module _ {cs : List ℕ} {from L at : ℕ} {l₀ : List ℕ} {j : ℕ} {l : List
   eight-done h = let k : j ≡ 8 = omega (arith, e .run .within) in (rw k at (e .spells), run-end (e .run) h, run-done (e .run) h)
 
 -- ---- the codes of a sparse pack
--- eight lists at a time
-joined-eights : (f : ℕ → List ℕ) (i : ℕ) → joined i (λ k. joined 8 (λ j. f (8 * k + j))) ≡ joined (8 * i) f
-joined-eights f zero = refl
-joined-eights f (suc i) =
-    let e : 8 * suc i ≡ 8 * i + 8 = omega arith in
-    rw (e, joined-add f (8 * i) 8, joined-eights f i)
+-- n slots from `from` on
+abbrev pub codesOf : List ℕ → ℕ → ℕ → ℕ → List ℕ
+codesOf cs L from n = joined n (λ k. codeBytes true cs L (from + k))
 
--- the groups of slots are all slots: those past the last correlation are not sent
-groups-all : (cs : List ℕ) (L : ℕ) → joined ((length cs + 7) / 8) (λ i. groupBytes cs (8 * i) L) ≡ element5 true cs L
-groups-all cs L =
-    let d = 8 * ((length cs + 7) / 8) - length cs in
-    let e : 8 * ((length cs + 7) / 8) ≡ length cs + d = omega arith in
-    rw (joined-eights (codeBytes true cs L) ((length cs + 7) / 8), e)
-    (joined-rest (codeBytes true cs L) (length cs) d (λ k h. rw (List·getD-eq-default cs 0 h)))
+module _ (cs : List ℕ) (L : ℕ) where
+  codes-add : (from m n : ℕ) → codesOf cs L from (m + n) ≡ codesOf cs L from m ++ codesOf cs L (from + m) n
+  codes-add from m zero = rw (add-zero, append-nil)
+  codes-add from m (suc n) = rw (add-suc, codes-add from m n, append-assoc, add-assoc)
 
--- ---- the loop over the slots of a sparse pack, after i bytes of the Bit Vector
-pub record Sent (cs : List ℕ) (L vector codes : ℕ) (l₀ : List ℕ) (i : ℕ) (l : List ℕ) (next : ℕ) : Type 0 where
-  pub run : Run ((length cs + 7) / 8) (λ k. groupBytes cs (8 * k) L) codes (sets l₀ vector (tab i (vectorByte true cs))) i l next
+  -- eight slots at a time
+  pub groups-codes : (i n : ℕ) → groups cs L i n ≡ codesOf cs L (8 * i) (8 * n)
+  groups-codes i zero = refl
+  groups-codes i (suc n) =
+      let e : 8 * suc n ≡ 8 * n + 8 = omega arith in
+      let f : 8 * (i + n) ≡ 8 * i + 8 * n = omega arith in
+      rw (e, codes-add (8 * i) (8 * n) 8, groups-codes i n, f)
+
+  pub groups-add : (m n : ℕ) → groups cs L 0 (m + n) ≡ groups cs L 0 m ++ groups cs L m n
+  groups-add m n =
+      let e : 8 * (m + n) ≡ 8 * m + 8 * n = omega arith in
+      rw (groups-codes 0 (m + n), groups-codes 0 m, groups-codes m n, e) (rw zero-add at (codes-add 0 (8 * m) (8 * n)))
+
+  -- the groups of slots are all slots: those past the last correlation are not sent
+  pub groups-all : groups cs L 0 ((length cs + 7) / 8) ≡ element5 true cs L
+  groups-all =
+      let d = 8 * ((length cs + 7) / 8) - length cs in
+      let e : 8 * ((length cs + 7) / 8) ≡ length cs + d = omega arith in
+      rw (groups-codes 0 ((length cs + 7) / 8), e)
+      (simp zero-add (joined-rest (codeBytes true cs L) (length cs) d (λ k h. rw (List·getD-eq-default cs 0 h))))
+
+-- ---- the loop over the slots of a sparse pack from byte b of the Bit Vector on, after byte i
+pub record Sent (cs : List ℕ) (L vector codes b : ℕ) (l₀ : List ℕ) (i : ℕ) (l : List ℕ) (next : ℕ) : Type 0 where
+  pub from : b ≤ i
+  pub within : i ≤ (length cs + 7) / 8
+  pub run : Run ((length cs + 7) / 8 - b) (λ k. groupBytes cs (8 * (b + k)) L) codes (sets l₀ (vector + b) (tab (i - b) (λ k. vectorByte true cs (b + k)))) (i - b) l next
   pub behind : vector + (length cs + 7) / 8 ≤ codes
 
-module _ {cs : List ℕ} {L vector codes : ℕ} {l₀ : List ℕ} where
-  pub sent-none : vector + length (element3 true cs) ≤ codes → codes + length (element5 true cs L) ≤ length l₀ → Sent cs L vector codes l₀ 0 l₀ codes
-  sent-none v h =
-      record {
-        run = run-none (rw (groups-all cs L) h);
-        behind = rw (length-tab ((length cs + 7) / 8) (vectorByte true cs)) at v;
-      }
+module _ {cs : List ℕ} {L vector codes b : ℕ} {l₀ : List ℕ} where
+  pub sent-none : b ≤ (length cs + 7) / 8 → vector + (length cs + 7) / 8 ≤ codes
+      → codes + length (groups cs L b ((length cs + 7) / 8 - b)) ≤ length l₀ → Sent cs L vector codes b l₀ b l₀ codes
+  sent-none f v h =
+      let e : b - b ≡ 0 = omega arith in
+      record { from = omega arith; within = f; run = rw e (run-none h); behind = v }
 
-  module _ {i : ℕ} {l : List ℕ} {next : ℕ} (e : Sent cs L vector codes l₀ i l next) where
+  module _ {i : ℕ} {l : List ℕ} {next : ℕ} (e : Sent cs L vector codes b l₀ i l next) where
+    at-i : b + (i - b) ≡ i
+    at-i = omega (arith, e .from)
+
     pub sent-long : length l ≡ length l₀
-    sent-long = e .run .long ∙ length-sets l₀ vector (tab i (vectorByte true cs))
+    sent-long = e .run .long ∙ length-sets l₀ (vector + b) (tab (i - b) (λ k. vectorByte true cs (b + k)))
 
     -- a turn: the group's codes, and then its byte
-    module _ (h : i < (length cs + 7) / 8) {m : List ℕ} (g : m ≡ sets l next (groupBytes cs (8 * i) L)) where
-      pub sent-place : vector + i < length m
-      sent-place =
-          rw (g, length-sets, sent-long)
-          (omega (arith, e .behind, e .run .room, length-sets l₀ vector (tab i (vectorByte true cs))))
+    module _ (h : i < (length cs + 7) / 8) where
+      pub sent-room : next + length (groupBytes cs (8 * i) L) ≤ length l
+      sent-room = rw at-i at (run-room (e .run) (omega (arith, e .from)))
 
-      pub sent-more : {x b : ℕ} → x ≡ next + length (groupBytes cs (8 * i) L) → b ≡ groupBits cs (8 * i) → Sent cs L vector codes l₀ (i + 1) (set m (vector + i) b) x
-      sent-more p q =
-          record {
-            run = rw (q, ← (sets-tab l₀ vector i (vectorByte true cs)))
-                (run-under (run-more (e .run) h g p) (vector + i) (vectorByte true cs i) (omega (arith, e .behind)));
-            behind = e .behind;
-          }
+      module _ {m : List ℕ} (g : m ≡ sets l next (groupBytes cs (8 * i) L)) where
+        pub sent-place : vector + i < length m
+        sent-place =
+            rw (g, length-sets, sent-long)
+            (omega (arith, e .behind, e .run .room, length-sets l₀ (vector + b) (tab (i - b) (λ k. vectorByte true cs (b + k)))))
 
-    pub sent-done : (length cs + 7) / 8 ≤ i → l ≡ sets (sets l₀ vector (element3 true cs)) codes (element5 true cs L)
+        pub sent-more : {x y : ℕ} → x ≡ next + length (groupBytes cs (8 * i) L) → y ≡ groupBits cs (8 * i)
+            → Sent cs L vector codes b l₀ (i + 1) (set m (vector + i) y) x
+        sent-more {x} p q =
+            let d : i + 1 - b ≡ i - b + 1 = omega (arith, e .from) in
+            let w : vector + b + (i - b) ≡ vector + i = omega (arith, e .from) in
+            record {
+              from = omega (arith, e .from);
+              within = omega arith;
+              run = rw (d, q, ← (sets-tab l₀ (vector + b) (i - b) (λ k. vectorByte true cs (b + k))), w, at-i)
+                  (run-under (run-more (e .run) {m = m} {x = x} (omega (arith, e .from)) (rw at-i g) (rw at-i p)) (vector + i) (vectorByte true cs i) (omega (arith, e .behind)));
+              behind = e .behind;
+            }
+
+    pub sent-done : (length cs + 7) / 8 ≤ i
+        → l ≡ sets (sets l₀ (vector + b) (tab ((length cs + 7) / 8 - b) (λ k. vectorByte true cs (b + k)))) codes (groups cs L b ((length cs + 7) / 8 - b))
     sent-done h =
-        let k : i ≡ (length cs + 7) / 8 = omega (arith, e .run .within) in
-        rw (k, groups-all cs L) at (run-done (e .run) h)
+        let k : i ≡ (length cs + 7) / 8 = omega (arith, e .within) in
+        rw k at (e .run .is)

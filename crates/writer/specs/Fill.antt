@@ -1,10 +1,10 @@
 -- What the parts of the writer may count on, and the places that they write to.
-use Prim.Native.Nat.{ℕ, _+_, _-_, _*_, _/_, _≤_}
+use Prim.Native.Nat.{ℕ, zero, suc, _+_, _-_, _*_, _/_, _≤_}
 use mathlib.Core.Path.{_≡_}
 use mathlib.Core.Bool.{Bool, true, not}
 use mathlib.Core.List.{List, [], _++_}
 use lib.Dec.{T}
-use lib.ListN.{length, getD}
+use lib.ListN.{length, getD, drop}
 use lib.Ieee.{binary64, ofBits}
 use Rattle.answers.specs.Table.{pick}
 use Rattle.numbers.specs.BerOid.{oidLength}
@@ -60,7 +60,8 @@ pub record Planned (ds cs : List ℕ) (plan : Plan) (room : ℕ) : Type 0 where
   pub vector : plan .vector ≡ length (element1 (length ds) ++ element2 (plan .sparse) (plan .clen))
   pub deviations : plan .deviations ≡ plan .vector + length (element3 (plan .sparse) cs)
   pub codes : plan .codes ≡ plan .deviations + length (element4 ds)
-  pub within : plan .codes + length (element5 (plan .sparse) cs (plan .clen)) ≤ room
+  pub end : plan .codes + length (element5 (plan .sparse) cs (plan .clen)) ≡ plan .end
+  pub within : plan .end ≤ room
 
 -- ---- a slot of a sparse pack, and eight of them from slot `from` on
 abbrev pub sentBytes : ℕ → ℕ → List ℕ
@@ -71,3 +72,17 @@ groupBytes cs from L = joined 8 (λ j. codeBytes true cs L (from + j))
 
 abbrev pub groupBits : List ℕ → ℕ → ℕ
 groupBits cs from = spelt 2 0 (tab 8 (λ j. pick (sent true cs (from + j)) 1 0))
+
+-- n groups from group i on, one behind the other
+abbrev pub groups : List ℕ → ℕ → ℕ → ℕ → List ℕ
+groups cs L i n = joined n (λ k. groupBytes cs (8 * (i + k)) L)
+
+-- ---- codes by words of eight bytes
+-- the code of eight bytes
+abbrev pub wordBytes : ℕ → List ℕ
+wordBytes c = bytesOf 8 (codeOf 8 (ofBits binary64 c))
+
+-- what the last of n slots from `from` on that is sent leaves behind its code of L bytes, for the next to be written over
+abbrev pub spill : Bool → List ℕ → ℕ → ℕ → ℕ → List ℕ
+spill sparse cs L from zero = []
+spill sparse cs L from (suc n) = pick (sent sparse cs (from + n)) (drop L (wordBytes (getD cs (from + n) 0))) (spill sparse cs L from n)

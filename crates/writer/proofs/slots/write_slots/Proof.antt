@@ -1,5 +1,6 @@
 -- `slots::write_slots` meets its contract: each branch has the plan's form.
 -- Assumes nothing.
+use native.Mathlib.Omega.{arith}
 use borrow.Author.Needs.{needs}
 use Rattle.writer.proofs.slots.write_slots.Statement.{statement}
 use Rattle.writer.proofs.slots.write_slots.Tie as tie
@@ -10,7 +11,7 @@ write-sent-requires c κs = rw (c .before .if1 .taken) at (c .before .before .be
 write-all-requires : tie.Need-write-all-requires
 write-all-requires c κs =
     let s = c .before .before .before .before in
-    (s .pre .0, s .pre .1, rw (c .before .if1 .left) at (s .pre .4))
+    (s .pre .0, s .pre .1, omega (arith, rw (c .before .if1 .left) at (s .pre .4), s .pre .5))
 
 same-length : tie.Need-same-length
 same-length c = search needs

@@ -34,7 +34,7 @@ spread c = rw (c .write-deviations .ensures, length-sets) (headed (c .before .be
 write-slots-requires : tie.Need-write-slots-requires
 write-slots-requires c κs =
     let s = c .before .before .before .before .before .before .before .before .before .before .before .before in
-    (s .pre .clen, s .pre .values, s .pre .slots, omega (arith, s .pre .deviations, s .pre .codes), omega (arith, spread (c .before .before .before), s .pre .within))
+    (s .pre .clen, s .pre .values, s .pre .slots, omega (arith, s .pre .deviations, s .pre .codes), s .pre .end, omega (arith, spread (c .before .before .before), s .pre .within))
 
 same-length : tie.Need-same-length
 same-length c = rw (c .before .before .write-slots .ensures, length-sets, length-sets) (spread (c .before .before .before .before .before .before))
@@ -49,7 +49,7 @@ returns c =
     c .before .before .write-slots .ensures
     ∙ rw (c .before .before .before .before .before .before .write-deviations .ensures, c .before .before .before .before .before .before .before .before .before .before .write-head .ensures)
     (assembled (a .out .now) (element1 (length (a .deviations .now)) ++ element2 form L) (element3 form (a .correlations .now)) (element4 (a .deviations .now)) (element5 form (a .correlations .now) L)
-    (s .pre .vector) (s .pre .deviations) (s .pre .codes) (s .pre .within))
+    (s .pre .vector) (s .pre .deviations) (s .pre .codes) (omega (arith, s .pre .end, s .pre .within)))
 
 pub write-pack-spec : {M : Type 1} → statement M
 write-pack-spec =

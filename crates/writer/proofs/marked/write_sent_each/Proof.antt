@@ -1,24 +1,23 @@
--- `slots::write_sent` meets its contract: each turn writes eight slots' codes behind those before them, and their byte of the Bit Vector.
+-- `marked::write_sent_each` meets its contract: each turn writes eight slots' codes behind those before them, and their byte of the Bit Vector.
 -- Assumes nothing.
 use Prim.Native.Nat.{_+_, _-_, _<_}
 use native.Mathlib.Omega.{arith}
 use lib.ListN.{length}
-use Rattle.answers.proofs.Runs.{run-room}
-use Rattle.writer.proofs.Sparse.{Sent, sent-none, sent-long, sent-place, sent-more, sent-done}
-use Rattle.writer.proofs.slots.write_sent.Statement.{statement}
-use Rattle.writer.proofs.slots.write_sent.Tie as tie
+use Rattle.writer.proofs.Sparse.{Sent, sent-none, sent-long, sent-room, sent-place, sent-more, sent-done}
+use Rattle.writer.proofs.marked.write_sent_each.Statement.{statement}
+use Rattle.writer.proofs.marked.write_sent_each.Tie as tie
 
 abbrev Inv-loop : tie.InvT-loop
-Inv-loop correlations clen vector codes out₀ bytes next₀ i₀ out next i = Sent correlations clen vector codes out₀ i out next
+Inv-loop correlations clen vector out₀ bytes next₀ i₀ out next i = Sent correlations clen vector next₀ i₀ out₀ i out next
 
 abbrev μ-loop : tie.MeasureT-loop
-μ-loop correlations clen vector codes out₀ bytes next₀ i₀ out next i = bytes - i
+μ-loop correlations clen vector out₀ bytes next₀ i₀ out next i = bytes - i
 
 add-bytes : tie.Need-add-bytes Inv-loop μ-loop
 add-bytes c = omega arith
 
 loop-holds : tie.Need-loop-holds Inv-loop μ-loop
-loop-holds c = sent-none (c .before .before .pre .3) (c .before .before .pre .4)
+loop-holds c = sent-none (c .before .before .pre .3) (c .before .before .pre .4) (c .before .before .pre .5)
 
 mul-write-group : tie.Need-mul-write-group Inv-loop μ-loop
 mul-write-group c = omega arith
@@ -26,7 +25,7 @@ mul-write-group c = omega arith
 write-group-requires : tie.Need-write-group-requires Inv-loop μ-loop
 write-group-requires c κs =
     let s = c .before .before .before .before .before in
-    (s .pre .0, s .pre .1, omega arith, run-room (c .before .before .loop .inv .run) (c .before .loop-test .taken))
+    (s .pre .0, s .pre .1, omega arith, sent-room (c .before .before .loop .inv) (c .before .loop-test .taken))
 
 -- the byte's place
 place : (c : tie.After-write-group Inv-loop μ-loop)
@@ -60,8 +59,8 @@ same-length c = sent-long (c .before .loop .inv)
 returns : tie.Need-returns Inv-loop μ-loop
 returns c = sent-done (c .before .loop .inv) (c .loop-test .left)
 
-pub write-sent-spec : {M : Type 1} → statement M
-write-sent-spec =
+pub write-sent-each-spec : {M : Type 1} → statement M
+write-sent-each-spec =
     tie.close
     (tie.spec
     Inv-loop

@@ -1,10 +1,10 @@
--- `slots::value_at` meets its contract: past its end a list has no entry but the default.
+-- `marked::value_at` meets its contract: past its end a list has no entry but the default.
 -- Assumes nothing.
 use mathlib.Core.Path.{sym}
 use lib.ListN.{List·getD-eq-default}
 use borrow.Author.Needs.{needs}
-use Rattle.writer.proofs.slots.value_at.Statement.{statement}
-use Rattle.writer.proofs.slots.value_at.Tie as tie
+use Rattle.writer.proofs.marked.value_at.Statement.{statement}
+use Rattle.writer.proofs.marked.value_at.Tie as tie
 
 mul-result : tie.Need-mul-result
 mul-result c = search needs

@@ -1,4 +1,4 @@
--- `slots::write_group` meets its contract: each turn writes the next slot's code, if it is sent, behind those before it, and appends its bit.
+-- `marked::write_group` meets its contract: each turn writes the next slot's code, if it is sent, behind those before it, and appends its bit.
 -- Assumes nothing.
 use mathlib.Core.Path.{refl}
 use Prim.Native.Nat.{_+_, _-_, _*_, _≤_, _<_}
@@ -7,8 +7,8 @@ use borrow.Author.Needs.{needs}
 use lib.ListN.{length}
 use Rattle.answers.proofs.Runs.{run-none, run-room}
 use Rattle.writer.proofs.Sparse.{Eight, eight-byte, eight-room, eight-more, eight-done}
-use Rattle.writer.proofs.slots.write_group.Statement.{statement}
-use Rattle.writer.proofs.slots.write_group.Tie as tie
+use Rattle.writer.proofs.marked.write_group.Statement.{statement}
+use Rattle.writer.proofs.marked.write_group.Tie as tie
 
 abbrev Inv-loop : tie.InvT-loop
 Inv-loop correlations from clen at out₀ bits₀ next₀ j₀ out bits next j = Eight correlations from clen at out₀ j out next bits

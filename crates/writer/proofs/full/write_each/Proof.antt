@@ -1,23 +1,20 @@
--- `slots::write_all` meets its contract: each turn writes the next correlation's code behind those before it.
+-- `full::write_each` meets its contract: each turn writes the next correlation's code behind those before it.
 -- Assumes nothing.
-use mathlib.Core.Bool.{false}
 use Prim.Native.Nat.{_+_, _-_, _≤_}
 use native.Mathlib.Omega.{arith}
 use lib.ListN.{length}
-use Rattle.answers.proofs.Runs.{Run, run-none, run-room, run-more, run-done}
-use Rattle.numbers.proofs.Bytes.{length-bytes}
-use Rattle.writer.specs.Pack.{codeBytes}
-use Rattle.writer.proofs.slots.write_all.Statement.{statement}
-use Rattle.writer.proofs.slots.write_all.Tie as tie
+use Rattle.writer.proofs.AllSlots.{Last, last-none, last-room, last-more, last-done}
+use Rattle.writer.proofs.full.write_each.Statement.{statement}
+use Rattle.writer.proofs.full.write_each.Tie as tie
 
 abbrev Inv-loop : tie.InvT-loop
-Inv-loop correlations clen at out₀ next₀ k₀ out next k = Run (length correlations) (codeBytes false correlations clen) at out₀ k out next
+Inv-loop correlations from clen at out₀ next₀ k₀ out next k = Last correlations from clen at out₀ k out next
 
 abbrev μ-loop : tie.MeasureT-loop
-μ-loop correlations clen at out₀ next₀ k₀ out next k = length correlations - k
+μ-loop correlations from clen at out₀ next₀ k₀ out next k = length correlations - k
 
 loop-holds : tie.Need-loop-holds Inv-loop μ-loop
-loop-holds c = run-none (c .before .before .pre .2)
+loop-holds c = last-none (c .before .before .pre .3)
 
 mul-put-slot : tie.Need-mul-put-slot Inv-loop μ-loop
 mul-put-slot c = omega arith
@@ -26,9 +23,8 @@ shared-slice-read-put-slot : tie.Need-shared-slice-read-put-slot Inv-loop μ-loo
 shared-slice-read-put-slot c = omega arith
 
 -- the next code has room
-room : (c : tie.In-loop Inv-loop μ-loop)
-    → c .before .loop .next + c .before .before .before .before .args .clen ≤ length (c .before .loop .out)
-room c = rw length-bytes at (run-room (c .before .loop .inv) (c .loop-test .taken))
+room : (c : tie.In-loop Inv-loop μ-loop) → c .before .loop .next + c .before .before .before .before .args .clen ≤ length (c .before .loop .out)
+room c = last-room (c .before .loop .inv) (c .loop-test .taken)
 
 put-slot-requires : tie.Need-put-slot-requires Inv-loop μ-loop
 put-slot-requires c κs =
@@ -48,17 +44,16 @@ loop-again : tie.Need-loop-again Inv-loop μ-loop
 loop-again c =
     let w = c .before .before in
     let t = w .before .before .before in
-    let l = t .before .loop in
-    run-more (l .inv) (t .loop-test .taken) (w .put-slot .ensures) (rw length-bytes)
+    last-more (t .before .loop .inv) (t .loop-test .taken) (w .put-slot .ensures)
 
 same-length : tie.Need-same-length Inv-loop μ-loop
-same-length c = c .before .loop .inv .long
+same-length c = c .before .loop .inv .run .long
 
 returns : tie.Need-returns Inv-loop μ-loop
-returns c = run-done (c .before .loop .inv) (c .loop-test .left)
+returns c = last-done (c .before .loop .inv) (c .loop-test .left)
 
-pub write-all-spec : {M : Type 1} → statement M
-write-all-spec =
+pub write-each-spec : {M : Type 1} → statement M
+write-each-spec =
     tie.close
     (tie.spec
     Inv-loop

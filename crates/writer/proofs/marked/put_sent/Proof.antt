@@ -1,4 +1,4 @@
--- `slots::put_sent` meets its contract: a correlation that is 0 has neither bit nor code.
+-- `marked::put_sent` meets its contract: a correlation that is 0 has neither bit nor code.
 -- Assumes nothing.
 use mathlib.Core.Path.{_≡_, refl}
 use mathlib.Core.Bool.{false}
@@ -6,8 +6,8 @@ use borrow.Author.Needs.{needs}
 use Rattle.numbers.proofs.Bytes.{length-bytes}
 use Rattle.writer.specs.Pack.{isZero}
 use Rattle.writer.proofs.Sparse.{is-one, not-one}
-use Rattle.writer.proofs.slots.put_sent.Statement.{statement}
-use Rattle.writer.proofs.slots.put_sent.Tie as tie
+use Rattle.writer.proofs.marked.put_sent.Statement.{statement}
+use Rattle.writer.proofs.marked.put_sent.Tie as tie
 
 zero-of-requires : tie.Need-zero-of-requires
 zero-of-requires c κs = search needs

@@ -1,10 +1,10 @@
--- `slots::put_slot` meets its contract: a number from -1 to 1 has a code, whose bytes come back with the lent part.
+-- `code::put_slot` meets its contract: a number from -1 to 1 has a code, whose bytes come back with the lent part.
 -- Assumes nothing.
 use borrow.Author.Needs.{needs}
 use Rattle.writer.proofs.Coded.{code-value, code-never}
 use Rattle.writer.proofs.Runs.{part-written}
-use Rattle.writer.proofs.slots.put_slot.Statement.{statement}
-use Rattle.writer.proofs.slots.put_slot.Tie as tie
+use Rattle.writer.proofs.code.put_slot.Statement.{statement}
+use Rattle.writer.proofs.code.put_slot.Tie as tie
 
 imapb-code-requires : tie.Need-imapb-code-requires
 imapb-code-requires c κs = search needs

@@ -1,0 +1,239 @@
+-- Laws of the codes of a sparse pack by words of eight bytes: a word is put over what the one before it left behind its code.
+-- Assumes nothing.
+use mathlib.Core.Path.{_≡_, refl, sym, ap, _∙_}
+use mathlib.Core.Bool.{Bool, true, false}
+use mathlib.Core.List.{List, [], _∷_, _++_, append-nil, append-assoc}
+use Prim.Native.Nat.{ℕ, zero, suc, _+_, _-_, _*_, _/_, _%_, _^_, _≤_, _<_}
+use native.Mathlib.Nat.{zero-add, add-zero, add-suc, add-mul, mul-assoc, pow-succ', mul-div-right, mul-le-mul-right}
+use native.Mathlib.Decide.{decLe}
+use native.Mathlib.Omega.{arith}
+use borrow.Author.Tests.{eq-eqb, ne-eqb}
+use lib.ListN.{length, getD, set, length-append, length-set}
+use lib.Pow.{pow-add, pow-pos, shl-lt}
+use lib.Seq.{sets, length-sets}
+use Rattle.answers.specs.Lent.{tab}
+use Rattle.answers.proofs.Lent.{length-tab}
+use Rattle.answers.proofs.Rules.{picked}
+use Rattle.answers.proofs.Joined.{joined-add, joined-le}
+use Rattle.answers.proofs.Stored.{sets-more, sets-tab, sets-swap, sets-cover}
+use Rattle.numbers.proofs.Bytes.{length-bytes}
+use Rattle.writer.specs.Pack.{sent, vectorByte, element3, element5, codeBytes}
+use Rattle.writer.specs.Fill.{InRange, Supported, groupBytes, groupBits, groups, wordBytes, spill}
+use Rattle.writer.proofs.Lengths.{length-3}
+use Rattle.writer.proofs.Sparse.{bitsOf, bits-more, bits-low, codesOf, groups-codes, groups-add, groups-all}
+use Rattle.writer.proofs.Spill.{spill-le, Worded, worded-none, worded-sent, worded-left}
+
+module _ (cs : List ℕ) (L : ℕ) where
+  codes-le : (from n : ℕ) → length (codesOf cs L from n) ≤ n * L
+  codes-le from n =
+      joined-le (λ k. codeBytes true cs L (from + k)) L n
+      (λ k h. picked (λ x. length x ≤ L) (sent true cs (from + k)) _ [] (λ e. rw length-bytes (omega arith)) (λ e. omega arith))
+
+  -- the codes of the first m slots, and of the others
+  codes-rest : (m d : ℕ) → m + d ≡ length cs → length (element5 true cs L) ≡ length (codesOf cs L 0 m) + length (codesOf cs L m d)
+  codes-rest m d e =
+      let a : element5 true cs L ≡ codesOf cs L 0 m ++ codesOf cs L m d = rw (← e) (simp zero-add (joined-add (codeBytes true cs L) m d)) in
+      rw (a, length-append)
+
+  -- the codes of n slots, and what the last one that is sent leaves, by words
+  abbrev wordsOf : ℕ → ℕ → List ℕ
+  wordsOf from n = codesOf cs L from n ++ spill true cs L from n
+
+  worded-all : (from n : ℕ) (l : List ℕ) (at : ℕ) → Worded true cs L from at l n (sets l at (wordsOf from n)) (at + length (codesOf cs L from n))
+  worded-all from n l at = record { run = record { long = length-sets l at (wordsOf from n); on = refl; is = refl } }
+
+-- so many slots leave one memory and one place
+same : {cs : List ℕ} {L from at : ℕ} {l₀ : List ℕ} {n : ℕ} {l l' : List ℕ} {x y : ℕ} → Worded true cs L from at l₀ n l x → Worded true cs L from at l₀ n l' y
+    → (l ≡ l') × (x ≡ y)
+same e d = (e .run .is ∙ sym (d .run .is), e .run .on ∙ sym (d .run .on))
+
+module _ {cs : List ℕ} {L from at : ℕ} {l₀ : List ℕ} {m : ℕ} {l : List ℕ} {next : ℕ} (e : Worded true cs L from at l₀ m l next) where
+  -- a store before the codes may as well have come first
+  worded-under : (i x : ℕ) → i < at → Worded true cs L from at (set l₀ i x) m (set l i x) next
+  worded-under i x h =
+      record {
+        run = record {
+          long = rw (length-set l i x, length-set l₀ i x) (e .run .long);
+          on = e .run .on;
+          is = rw (e .run .is) (sym (sets-swap l₀ i (x ∷ []) at (wordsOf cs L from m) (omega arith)));
+        };
+      }
+
+  -- the words of n slots more
+  worded-add : Supported L → InRange cs → (n : ℕ) {l' : List ℕ} {y : ℕ} → Worded true cs L (from + m) next l n l' y → Worded true cs L from at l₀ (m + n) l' y
+  worded-add s r zero d = rw (add-zero, d .run .is, d .run .on, add-zero) e
+  worded-add s r (suc n) {l'} {y} d =
+      let k : from + m + n ≡ from + (m + n) = omega arith in
+      let u : m + suc n ≡ m + n + 1 = omega arith in
+      let v : suc n ≡ n + 1 = omega arith in
+      let c = getD cs (from + m + n) 0 in
+      let p = sets l next (wordsOf cs L (from + m) n) in
+      let x = next + length (codesOf cs L (from + m) n) in
+      let f = worded-all cs L (from + m) n l next in
+      let g = worded-add s r n f in
+      picked {A = ℕ} (λ (_ : ℕ). Worded true cs L from at l₀ (m + suc n) l' y) (sent true cs (from + m + n)) 0 0
+      (λ b.
+      let a = worded-sent f s (r (from + m + n)) b {m = sets p x (wordBytes c)} refl in
+      rw (u, same (rw v at d) a .0, same (rw v at d) a .1) (worded-sent g s (r (from + (m + n))) (rw k at b) {m = sets p x (wordBytes c)} (rw k)))
+      (λ b.
+      let a = worded-left f b in
+      rw (u, same (rw v at d) a .0, same (rw v at d) a .1) (worded-left g (rw k at b)))
+
+-- ---- the bits of eight slots, each added at its weight
+module _ {j : ℕ} (h : j < 8) where
+  weight : 128 / 2 ^ j ≡ 2 ^ (7 - j)
+  weight =
+      let e : 7 ≡ j + (7 - j) = omega arith in
+      ap (λ (n : ℕ). 2 ^ n / 2 ^ j) e ∙ rw pow-add (mul-div-right (2 ^ (7 - j)) (pow-pos j))
+
+  -- one bit more
+  weigh : (x c : ℕ) → (x * 2 + c) * 2 ^ (8 - (j + 1)) ≡ x * 2 ^ (8 - j) + c * 2 ^ (7 - j)
+  weigh x c =
+      let e : 8 - (j + 1) ≡ 7 - j = omega arith in
+      let f : 8 - j ≡ suc (7 - j) = omega arith in
+      rw (e, f, pow-succ', add-mul, mul-assoc)
+
+-- the bits so far, those of the slots to come 0
+abbrev weighed : (ℕ → Bool) → ℕ → ℕ
+weighed b j = bitsOf b j * 2 ^ (8 - j)
+
+module _ (b : ℕ → Bool) {j : ℕ} (h : j < 8) where
+  weighed-one : b j ≡ true → weighed b (j + 1) ≡ weighed b j + 128 / 2 ^ j
+  weighed-one e = rw (bits-more b j, e, weigh h (bitsOf b j) 1, weight h) (omega arith)
+
+  weighed-none : b j ≡ false → weighed b (j + 1) ≡ weighed b j
+  weighed-none e = rw (bits-more b j, e, weigh h (bitsOf b j) 0) (omega arith)
+
+weighed-fits : (b : ℕ → Bool) (j : ℕ) → j ≤ 8 → weighed b j < 256
+weighed-fits b j h =
+    let e : j + (8 - j) ≡ 8 = omega arith in
+    rw e at (shl-lt {a = bitsOf b j} j (8 - j) (bits-low b j))
+
+-- ---- the loop over eight slots by words, after j turns
+pub record EightWords (cs : List ℕ) (from L at : ℕ) (l₀ : List ℕ) (j : ℕ) (l : List ℕ) (next bits : ℕ) : Type 0 where
+  pub within : j ≤ 8
+  pub run : Worded true cs L from at l₀ j l next
+  pub weighs : bits ≡ weighed (λ k. sent true cs (from + k)) j
+
+module _ {cs : List ℕ} {from L at : ℕ} {l₀ : List ℕ} where
+  pub words-start : EightWords cs from L at l₀ 0 l₀ at 0
+  words-start = record { within = omega arith; run = worded-none; weighs = refl }
+
+  module _ {j : ℕ} {l : List ℕ} {next bits : ℕ} (e : EightWords cs from L at l₀ j l next bits) where
+    -- a turn
+    module _ (h : j < 8) (s : Supported L) where
+      -- a word has room, whether a slot more is sent or not
+      pub words-room : at + 8 * L + 8 ≤ length l₀ → next + L + 8 ≤ length l
+      words-room r = omega (arith, e .run .run .on, e .run .run .long, codes-le cs L from j, mul-le-mul-right {m = j} {n = 7} L (omega arith))
+
+      module _ (t : getD cs (from + j) 0 % 2 ^ 63 ≡ 0 → ⊥) where
+        is-sent : sent true cs (from + j) ≡ true
+        is-sent = rw (ne-eqb (getD cs (from + j) 0 % 2 ^ 63) 0 t)
+
+        bits-on : bits + 128 / 2 ^ j ≡ weighed (λ k. sent true cs (from + k)) (j + 1)
+        bits-on = rw (e .weighs) (sym (weighed-one (λ k. sent true cs (from + k)) h is-sent))
+
+        pub words-byte : bits + 128 / 2 ^ j < 256
+        words-byte = rw bits-on (weighed-fits (λ k. sent true cs (from + k)) (j + 1) (omega arith))
+
+        pub words-one : InRange cs → {m : List ℕ} {x y : ℕ} → m ≡ sets l next (wordBytes (getD cs (from + j) 0)) → x ≡ next + L → y ≡ bits + 128 / 2 ^ j
+            → EightWords cs from L at l₀ (j + 1) m x y
+        words-one r g p q = record { within = omega arith; run = rw p (worded-sent (e .run) s (r (from + j)) is-sent g); weighs = q ∙ bits-on }
+
+      pub words-none : getD cs (from + j) 0 % 2 ^ 63 ≡ 0 → {m : List ℕ} {x y : ℕ} → m ≡ l → x ≡ next → y ≡ bits → EightWords cs from L at l₀ (j + 1) m x y
+      words-none t g p q =
+          let u : sent true cs (from + j) ≡ false = rw (eq-eqb (getD cs (from + j) 0 % 2 ^ 63) 0 t) in
+          record {
+            within = omega arith;
+            run = rw (g, p) (worded-left (e .run) u);
+            weighs = q ∙ e .weighs ∙ sym (weighed-none (λ k. sent true cs (from + k)) h u);
+          }
+
+    pub words-done : 8 ≤ j
+        → (bits ≡ groupBits cs from) × (next ≡ at + length (groupBytes cs from L)) × (l ≡ sets l₀ at (groupBytes cs from L ++ spill true cs L from 8))
+    words-done h = let k : j ≡ 8 = omega (arith, e .within) in (rw k at (e .weighs) ∙ omega arith, rw k at (e .run .run .on), rw k at (e .run .run .is))
+
+-- ---- the loop over the bytes of the Bit Vector, eight slots each, by words, after i of them
+pub record SentWords (cs : List ℕ) (L vector codes end : ℕ) (l₀ : List ℕ) (i : ℕ) (l : List ℕ) (next : ℕ) : Type 0 where
+  pub within : i ≤ length cs / 8
+  pub behind : vector + (length cs + 7) / 8 ≤ codes
+  pub fits : next + length (spill true cs L 0 (8 * i)) ≤ end
+  pub run : Worded true cs L 0 codes (sets l₀ vector (tab i (vectorByte true cs))) (8 * i) l next
+
+module _ {cs : List ℕ} {L vector codes end : ℕ} {l₀ : List ℕ} where
+  pub sent-words-none : vector + length (element3 true cs) ≤ codes → codes ≤ end → SentWords cs L vector codes end l₀ 0 l₀ codes
+  sent-words-none v h =
+      record {
+        within = omega arith;
+        behind = rw (length-3 true cs) at v;
+        fits = omega arith;
+        run = worded-none;
+      }
+
+  module _ {i : ℕ} {l : List ℕ} {next : ℕ} (e : SentWords cs L vector codes end l₀ i l next) where
+    pub sent-words-long : length l ≡ length l₀
+    sent-words-long = e .run .run .long ∙ length-sets l₀ vector (tab i (vectorByte true cs))
+
+    -- where so much is left there are eight slots more, since the codes of fewer are shorter
+    pub sent-words-left : codes + length (element5 true cs L) ≡ end → next + (8 * L + 8) ≤ end → i < length cs / 8
+    sent-words-left w h =
+        let d = length cs - 8 * i in
+        let k : 8 * i + d ≡ length cs = omega (arith, e .within) in
+        elim (decLe 8 d) [
+          | yes g ↦ omega arith
+          | no g ↦ absurd (omega (arith, e .run .run .on, codes-rest cs L (8 * i) d k, codes-le cs L (8 * i) d, mul-le-mul-right {m = d} {n = 8} L (omega arith)))
+        ]
+
+    -- a turn: the group's words, and then its byte
+    module _ (h : i < length cs / 8) {m : List ℕ} (g : m ≡ sets l next (groupBytes cs (8 * i) L ++ spill true cs L (8 * i) 8)) where
+      pub sent-words-place : end ≤ length l₀ → vector + i < length m
+      sent-words-place w = rw (g, length-sets, sent-words-long) (omega (arith, e .behind, e .fits, e .run .run .on))
+
+      pub sent-words-more : Supported L → InRange cs → next + (8 * L + 8) ≤ end → {x b : ℕ} → x ≡ next + length (groupBytes cs (8 * i) L) → b ≡ groupBits cs (8 * i)
+          → SentWords cs L vector codes end l₀ (i + 1) (set m (vector + i) b) x
+      sent-words-more s r w {x} {b} p q =
+          let k : 8 * (i + 1) ≡ 8 * i + 8 = omega arith in
+          let d : Worded true cs L (0 + 8 * i) next l 8 m x = rw (zero-add, g, p) (worded-all cs L (8 * i) 8 l next) in
+          record {
+            within = omega arith;
+            behind = e .behind;
+            fits = omega (arith, spill-le true cs L 0 (8 * (i + 1)), codes-le cs L (8 * i) 8);
+            run = rw (k, q, ← (sets-tab l₀ vector i (vectorByte true cs)))
+                (worded-under (worded-add (e .run) s r 8 d) (vector + i) (vectorByte true cs i) (omega (arith, e .behind)));
+          }
+
+    pub sent-words-done : (i ≤ (length cs + 7) / 8) × (next ≡ codes + length (groups cs L 0 i)) × (next + length (spill true cs L 0 (8 * i)) ≤ end)
+        × (l ≡ sets (sets l₀ vector (tab i (vectorByte true cs))) codes (groups cs L 0 i ++ spill true cs L 0 (8 * i)))
+    sent-words-done = rw (groups-codes cs L 0 i) (omega (arith, e .within), e .run .run .on, e .fits, e .run .run .is)
+
+-- ---- the first B bytes by words, and the others each
+tab-add : (f : ℕ → ℕ) (m n : ℕ) → tab (m + n) f ≡ tab m f ++ tab n (λ k. f (m + k))
+tab-add f m zero = rw (add-zero, append-nil)
+tab-add f m (suc n) = rw (add-suc, tab-add f m n, append-assoc)
+
+module _ (cs : List ℕ) (L codes end : ℕ) {B next : ℕ} (b : B ≤ (length cs + 7) / 8) (p : next ≡ codes + length (groups cs L 0 B))
+    (w : codes + length (element5 true cs L) ≡ end) where
+  all-codes : element5 true cs L ≡ groups cs L 0 B ++ groups cs L B ((length cs + 7) / 8 - B)
+  all-codes =
+      let e : B + ((length cs + 7) / 8 - B) ≡ (length cs + 7) / 8 = omega arith in
+      sym (groups-all cs L) ∙ rw e at (groups-add cs L B ((length cs + 7) / 8 - B))
+
+  -- the others end where the pack does
+  pub rest-room : next + length (groups cs L B ((length cs + 7) / 8 - B)) ≡ end
+  rest-room = omega (arith, ap length all-codes, length-append (groups cs L 0 B) (groups cs L B ((length cs + 7) / 8 - B)))
+
+  pub sent-whole : (vector : ℕ) (l₀ : List ℕ) {m l : List ℕ} → vector + length (element3 true cs) ≤ codes → next + length (spill true cs L 0 (8 * B)) ≤ end
+      → m ≡ sets (sets l₀ vector (tab B (vectorByte true cs))) codes (groups cs L 0 B ++ spill true cs L 0 (8 * B))
+      → l ≡ sets (sets m (vector + B) (tab ((length cs + 7) / 8 - B) (λ i. vectorByte true cs (B + i)))) next (groups cs L B ((length cs + 7) / 8 - B))
+      → l ≡ sets (sets l₀ vector (element3 true cs)) codes (element5 true cs L)
+  sent-whole vector l₀ v h e f =
+      let n = (length cs + 7) / 8 - B in
+      let k : B + n ≡ (length cs + 7) / 8 = omega arith in
+      let x = tab B (vectorByte true cs) in
+      let y = tab n (λ i. vectorByte true cs (B + i)) in
+      let t : tab ((length cs + 7) / 8) (vectorByte true cs) ≡ x ++ y = rw k at (tab-add (vectorByte true cs) B n) in
+      let over = groups cs L 0 B ++ spill true cs L 0 (8 * B) in
+      let below : vector + B + length y ≤ codes = rw (length-tab n (λ i. vectorByte true cs (B + i))) (omega (arith, length-3 true cs)) in
+      f
+      ∙ rw (e, ← (sets-swap (sets l₀ vector x) (vector + B) y codes over below), p, all-codes, t, sets-more l₀ vector x y, length-tab B (vectorByte true cs))
+      (sets-cover (sets (sets l₀ vector x) (vector + B) y) codes (groups cs L 0 B) (spill true cs L 0 (8 * B)) (groups cs L B n) (omega (arith, rest-room)))
