@@ -6,8 +6,8 @@ use Prim.Native.Nat.{ℕ, suc, _+_, _≤_, _<_}
 use native.Mathlib.Nat.{add-zero, zero-add}
 use native.Mathlib.Numerals.{add-one}
 use native.Mathlib.Omega.{arith}
-use lib.ListN.{length, set}
-use lib.Seq.{sets, sets-eq, set-comm, set-set}
+use lib.ListN.{length, getD, set}
+use lib.Seq.{sets, sets-eq, set-comm, set-set, getD-set-other}
 use Rattle.answers.specs.Lent.{over, tab}
 use Rattle.answers.proofs.Lent.{length-tab}
 
@@ -36,6 +36,11 @@ pub sets-swap : (l : List ℕ) (i : ℕ) (x : List ℕ) (j : ℕ) (y : List ℕ)
 sets-swap l i [] j y h = refl
 sets-swap l i (a ∷ x) j y h =
     sets-swap (set l i a) (suc i) x j y (omega arith) ∙ ap (λ (m : List ℕ). sets m (suc i) x) (set-swap l i a j y (omega arith))
+
+-- below a run nothing changes
+pub sets-below : (l : List ℕ) (i : ℕ) (x : List ℕ) (p : ℕ) → p < i → getD (sets l i x) p 0 ≡ getD l p 0
+sets-below l i [] p h = refl
+sets-below l i (a ∷ x) p h = sets-below (set l i a) (suc i) x p (omega arith) ∙ getD-set-other l i p a 0 (omega arith)
 
 -- a run over another that is no longer
 again : (l : List ℕ) (i : ℕ) (y z : List ℕ) → length y ≤ length z → sets (sets l i y) i z ≡ sets l i z

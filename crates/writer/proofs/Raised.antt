@@ -7,6 +7,7 @@ use mathlib.Core.Logic.{inl, inr}
 use Prim.Native.Nat.{ℕ, zero, suc, _+_, _-_, _*_, _/_, _%_, _^_, _≤_, _<_}
 use native.Mathlib.Nat.{eq-or-lt-of-le, mul-pos, mul-le-mul-left, le-of-mul-le-mul-right}
 use native.Mathlib.Decide.{decLe}
+use native.Mathlib.Numerals.{add-one}
 use native.Mathlib.Omega.{arith}
 use borrow.Author.Tests.{eq-eqb, ne-eqb, le-ltb, lt-leb}
 use lib.Bits.{bitOr, or-add-and, and-le-l, and-le-r, or-shr, or-mod}
@@ -24,7 +25,8 @@ use Rattle.answers.specs.declared.Check.the-variants.{Passes}
 use Rattle.imapb.specs.Tables.{rangeRule}
 use Rattle.imapb.proofs.Range.{in-range}
 use Rattle.writer.specs.Pack.{isZero}
-use Rattle.writer.proofs.Checked.{Passed, passed-more}
+use Rattle.writer.specs.Fill.{raise, bitsMet, leastMet}
+use Rattle.writer.proofs.Checked.{Passed, passed-none, passed-more}
 
 -- ---- the bits of a raised number
 pub no-nan : (b : ℕ) → b < 2 ^ 62 + 2 ^ 52 → T (not (nanBits binary64 b))
@@ -91,16 +93,20 @@ module _ (v : ℕ) (own : v / 2 ^ 62 % 2 ≡ 0) where
         | no h ↦ rw (ne-eqb (v % 2 ^ 63) 0 (omega arith), ne-eqb (v % 2 ^ 62 + 2 ^ 52) (2 ^ 52) (omega arith))
       ]
 
--- ---- one turn more
-pub one-at-most : (q : Bool) → pick q 1 0 ≤ 1
+-- ---- the pass: at most all are counted, and where the bit is clear those met lie within and are counted
+one-at-most : (q : Bool) → pick q 1 0 ≤ 1
 one-at-most true = omega arith
 one-at-most false = omega arith
 
-pub raised-more : (cs : List ℕ) (z k bits x high : ℕ) → k < length cs → (bits / 2 ^ 62 % 2 ≡ 0 → Passed cs z k)
-    → high ≡ getD cs k 0 % 2 ^ 62 + 2 ^ 52 → x ≡ pick (eqb high (2 ^ 52)) 1 0
-    → bitOr bits (bitOr (getD cs k 0) high) / 2 ^ 62 % 2 ≡ 0 → Passed cs (z + x) (k + 1)
-raised-more cs z k bits x high h p r q e =
+pub least-le : (cs : List ℕ) (k : ℕ) → leastMet cs k ≤ k
+least-le cs zero = omega arith
+least-le cs (suc k) = omega (arith, least-le cs k, one-at-most (eqb (raise (getD cs k 0)) (2 ^ 52)))
+
+pub met-passed : (cs : List ℕ) (k : ℕ) → k ≤ length cs → bitsMet cs k / 2 ^ 62 % 2 ≡ 0 → Passed cs (leastMet cs k) k
+met-passed cs zero h e = passed-none cs
+met-passed cs (suc k) h e =
     let v = getD cs k 0 in
-    let f = or-clear bits (bitOr v high) e in
-    let g = or-clear v high (f .1) in
-    passed-more (p (f .0)) h {check = Passes} (raised-passes v (g .0) (rw r at (g .1))) refl (q ∙ rw (r, raised-zero v (g .0)))
+    let f = or-clear (bitsMet cs k) (bitOr v (raise v)) e in
+    let g = or-clear v (raise v) (f .1) in
+    let x : ℕ = pick (eqb (raise v) (2 ^ 52)) 1 0 in
+    rw add-one at (passed-more (met-passed cs k (omega arith) (f .0)) h {check = Passes} (raised-passes v (g .0) (g .1)) refl {x = x} (rw (raised-zero v (g .0))))

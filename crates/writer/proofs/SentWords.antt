@@ -10,12 +10,12 @@ use native.Mathlib.Omega.{arith}
 use borrow.Author.Tests.{eq-eqb, ne-eqb}
 use lib.ListN.{length, getD, set, length-append, length-set}
 use lib.Pow.{pow-add, pow-pos, shl-lt}
-use lib.Seq.{sets, length-sets}
+use lib.Seq.{sets, length-sets, set-set, getD-set-same}
 use Rattle.answers.specs.Lent.{tab}
 use Rattle.answers.proofs.Lent.{length-tab}
 use Rattle.answers.proofs.Rules.{picked}
 use Rattle.answers.proofs.Joined.{joined-add, joined-le}
-use Rattle.answers.proofs.Stored.{sets-more, sets-tab, sets-swap, sets-cover}
+use Rattle.answers.proofs.Stored.{sets-more, sets-tab, sets-swap, sets-below, sets-cover}
 use Rattle.numbers.proofs.Bytes.{length-bytes}
 use Rattle.writer.specs.Pack.{sent, vectorByte, element3, element5, codeBytes}
 use Rattle.writer.specs.Fill.{InRange, Supported, groupBytes, groupBits, groups, wordBytes, spill}
@@ -109,49 +109,69 @@ weighed-fits b j h =
     let e : j + (8 - j) ≡ 8 = omega arith in
     rw e at (shl-lt {a = bitsOf b j} j (8 - j) (bits-low b j))
 
--- ---- the loop over eight slots by words, after j turns
-pub record EightWords (cs : List ℕ) (from L at : ℕ) (l₀ : List ℕ) (j : ℕ) (l : List ℕ) (next bits : ℕ) : Type 0 where
+-- ---- the loop over eight slots by words, after j turns: their bits so far stand at `place`, where first a 0 is stored
+pub record EightWords (cs : List ℕ) (from L at place : ℕ) (l₀ : List ℕ) (j : ℕ) (l : List ℕ) (next : ℕ) : Type 0 where
   pub within : j ≤ 8
-  pub run : Worded true cs L from at l₀ j l next
-  pub weighs : bits ≡ weighed (λ k. sent true cs (from + k)) j
+  pub below : place < at
+  pub run : Worded true cs L from at (set l₀ place (weighed (λ k. sent true cs (from + k)) j)) j l next
 
-module _ {cs : List ℕ} {from L at : ℕ} {l₀ : List ℕ} where
-  pub words-start : EightWords cs from L at l₀ 0 l₀ at 0
-  words-start = record { within = omega arith; run = worded-none; weighs = refl }
+pub words-start : {cs : List ℕ} {from L at place : ℕ} (l : List ℕ) → place < at → EightWords cs from L at place (set l place 0) 0 (set l place 0) at
+words-start l h = record { within = omega arith; below = h; run = rw set-set worded-none }
 
-  module _ {j : ℕ} {l : List ℕ} {next bits : ℕ} (e : EightWords cs from L at l₀ j l next bits) where
+module _ {cs : List ℕ} {from L at place : ℕ} {l₀ : List ℕ} where
+  module _ {j : ℕ} {l : List ℕ} {next : ℕ} (e : EightWords cs from L at place l₀ j l next) where
+    abbrev bits : ℕ → ℕ
+    bits i = weighed (λ k. sent true cs (from + k)) i
+
+    pub words-long : length l ≡ length l₀
+    words-long = e .run .run .long ∙ length-set l₀ place (bits j)
+
     -- a turn
-    module _ (h : j < 8) (s : Supported L) where
+    module _ (h : j < 8) (s : Supported L) (r : at + 8 * L + 8 ≤ length l₀) where
       -- a word has room, whether a slot more is sent or not
-      pub words-room : at + 8 * L + 8 ≤ length l₀ → next + L + 8 ≤ length l
-      words-room r = omega (arith, e .run .run .on, e .run .run .long, codes-le cs L from j, mul-le-mul-right {m = j} {n = 7} L (omega arith))
+      pub words-room : next + L + 8 ≤ length l
+      words-room = omega (arith, e .run .run .on, words-long, codes-le cs L from j, mul-le-mul-right {m = j} {n = 7} L (omega arith))
+
+      pub words-place : place < length l
+      words-place = omega (arith, words-long, e .below)
+
+      stands : getD l place 0 ≡ bits j
+      stands =
+          ap (λ (x : List ℕ). getD x place 0) (e .run .run .is)
+          ∙ sets-below (set l₀ place (bits j)) at (wordsOf cs L from j) place (e .below)
+          ∙ getD-set-same l₀ place (bits j) 0 (omega (arith, e .below))
 
       module _ (t : getD cs (from + j) 0 % 2 ^ 63 ≡ 0 → ⊥) where
         is-sent : sent true cs (from + j) ≡ true
         is-sent = rw (ne-eqb (getD cs (from + j) 0 % 2 ^ 63) 0 t)
 
-        bits-on : bits + 128 / 2 ^ j ≡ weighed (λ k. sent true cs (from + k)) (j + 1)
-        bits-on = rw (e .weighs) (sym (weighed-one (λ k. sent true cs (from + k)) h is-sent))
+        bits-on : getD l place 0 + 128 / 2 ^ j ≡ bits (j + 1)
+        bits-on = rw stands (sym (weighed-one (λ k. sent true cs (from + k)) h is-sent))
 
-        pub words-byte : bits + 128 / 2 ^ j < 256
+        pub words-byte : getD l place 0 + 128 / 2 ^ j < 256
         words-byte = rw bits-on (weighed-fits (λ k. sent true cs (from + k)) (j + 1) (omega arith))
 
-        pub words-one : InRange cs → {m : List ℕ} {x y : ℕ} → m ≡ sets l next (wordBytes (getD cs (from + j) 0)) → x ≡ next + L → y ≡ bits + 128 / 2 ^ j
-            → EightWords cs from L at l₀ (j + 1) m x y
-        words-one r g p q = record { within = omega arith; run = rw p (worded-sent (e .run) s (r (from + j)) is-sent g); weighs = q ∙ bits-on }
+        pub words-one : InRange cs → {m : List ℕ} {x : ℕ} → m ≡ sets (set l place (getD l place 0 + 128 / 2 ^ j)) next (wordBytes (getD cs (from + j) 0)) → x ≡ next + L
+            → EightWords cs from L at place l₀ (j + 1) m x
+        words-one q g p =
+            let u = rw (set-set, bits-on) at (worded-under (e .run) place (getD l place 0 + 128 / 2 ^ j) (e .below)) in
+            record { within = omega arith; below = e .below; run = rw p (worded-sent u s (q (from + j)) is-sent (rw bits-on at g)) }
 
-      pub words-none : getD cs (from + j) 0 % 2 ^ 63 ≡ 0 → {m : List ℕ} {x y : ℕ} → m ≡ l → x ≡ next → y ≡ bits → EightWords cs from L at l₀ (j + 1) m x y
-      words-none t g p q =
+      pub words-none : getD cs (from + j) 0 % 2 ^ 63 ≡ 0 → {m : List ℕ} {x : ℕ} → m ≡ l → x ≡ next → EightWords cs from L at place l₀ (j + 1) m x
+      words-none t g p =
           let u : sent true cs (from + j) ≡ false = rw (eq-eqb (getD cs (from + j) 0 % 2 ^ 63) 0 t) in
           record {
             within = omega arith;
-            run = rw (g, p) (worded-left (e .run) u);
-            weighs = q ∙ e .weighs ∙ sym (weighed-none (λ k. sent true cs (from + k)) h u);
+            below = e .below;
+            run = rw (g, p, weighed-none (λ k. sent true cs (from + k)) h u) (worded-left (e .run) u);
           }
 
     pub words-done : 8 ≤ j
-        → (bits ≡ groupBits cs from) × (next ≡ at + length (groupBytes cs from L)) × (l ≡ sets l₀ at (groupBytes cs from L ++ spill true cs L from 8))
-    words-done h = let k : j ≡ 8 = omega (arith, e .within) in (rw k at (e .weighs) ∙ omega arith, rw k at (e .run .run .on), rw k at (e .run .run .is))
+        → (next ≡ at + length (groupBytes cs from L)) × (l ≡ sets (set l₀ place (groupBits cs from)) at (groupBytes cs from L ++ spill true cs L from 8))
+    words-done h =
+        let k : j ≡ 8 = omega (arith, e .within) in
+        let q : bits 8 ≡ groupBits cs from = omega arith in
+        (rw k at (e .run .run .on), rw (k, q) at (e .run .run .is))
 
 -- ---- the loop over the bytes of the Bit Vector, eight slots each, by words, after i of them
 pub record SentWords (cs : List ℕ) (L vector codes end : ℕ) (l₀ : List ℕ) (i : ℕ) (l : List ℕ) (next : ℕ) : Type 0 where
@@ -184,22 +204,24 @@ module _ {cs : List ℕ} {L vector codes end : ℕ} {l₀ : List ℕ} where
           | no g ↦ absurd (omega (arith, e .run .run .on, codes-rest cs L (8 * i) d k, codes-le cs L (8 * i) d, mul-le-mul-right {m = d} {n = 8} L (omega arith)))
         ]
 
-    -- a turn: the group's words, and then its byte
-    module _ (h : i < length cs / 8) {m : List ℕ} (g : m ≡ sets l next (groupBytes cs (8 * i) L ++ spill true cs L (8 * i) 8)) where
-      pub sent-words-place : end ≤ length l₀ → vector + i < length m
-      sent-words-place w = rw (g, length-sets, sent-words-long) (omega (arith, e .behind, e .fits, e .run .run .on))
+    -- a turn: the group's byte and words
+    module _ (h : i < length cs / 8) where
+      pub sent-words-place : vector + i < next
+      sent-words-place = omega (arith, e .behind, e .run .run .on)
 
-      pub sent-words-more : Supported L → InRange cs → next + (8 * L + 8) ≤ end → {x b : ℕ} → x ≡ next + length (groupBytes cs (8 * i) L) → b ≡ groupBits cs (8 * i)
-          → SentWords cs L vector codes end l₀ (i + 1) (set m (vector + i) b) x
-      sent-words-more s r w {x} {b} p q =
+      pub sent-words-more : Supported L → InRange cs → next + (8 * L + 8) ≤ end → {m : List ℕ} {x : ℕ}
+          → m ≡ sets (set l (vector + i) (groupBits cs (8 * i))) next (groupBytes cs (8 * i) L ++ spill true cs L (8 * i) 8) → x ≡ next + length (groupBytes cs (8 * i) L)
+          → SentWords cs L vector codes end l₀ (i + 1) m x
+      sent-words-more s r w {m} {x} g p =
           let k : 8 * (i + 1) ≡ 8 * i + 8 = omega arith in
-          let d : Worded true cs L (0 + 8 * i) next l 8 m x = rw (zero-add, g, p) (worded-all cs L (8 * i) 8 l next) in
+          let y = set l (vector + i) (groupBits cs (8 * i)) in
+          let u = worded-under (e .run) (vector + i) (groupBits cs (8 * i)) (omega (arith, e .behind)) in
+          let d : Worded true cs L (0 + 8 * i) next y 8 m x = rw (zero-add, g, p) (worded-all cs L (8 * i) 8 y next) in
           record {
             within = omega arith;
             behind = e .behind;
             fits = omega (arith, spill-le true cs L 0 (8 * (i + 1)), codes-le cs L (8 * i) 8);
-            run = rw (k, q, ← (sets-tab l₀ vector i (vectorByte true cs)))
-                (worded-under (worded-add (e .run) s r 8 d) (vector + i) (vectorByte true cs i) (omega (arith, e .behind)));
+            run = rw (k, ← (sets-tab l₀ vector i (vectorByte true cs))) (worded-add u s r 8 d);
           }
 
     pub sent-words-done : (i ≤ (length cs + 7) / 8) × (next ≡ codes + length (groups cs L 0 i)) × (next + length (spill true cs L 0 (8 * i)) ≤ end)

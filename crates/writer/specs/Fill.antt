@@ -1,9 +1,10 @@
 -- What the parts of the writer may count on, and the places that they write to.
-use Prim.Native.Nat.{ℕ, zero, suc, _+_, _-_, _*_, _/_, _≤_}
+use Prim.Native.Nat.{ℕ, zero, suc, _+_, _-_, _*_, _/_, _%_, _^_, _≤_}
 use mathlib.Core.Path.{_≡_}
 use mathlib.Core.Bool.{Bool, true, not}
 use mathlib.Core.List.{List, [], _++_}
-use lib.Dec.{T}
+use lib.Bits.{bitOr}
+use lib.Dec.{T, eqb}
 use lib.ListN.{length, getD, drop}
 use lib.Ieee.{binary64, ofBits}
 use Rattle.answers.specs.Table.{pick}
@@ -20,6 +21,22 @@ use Rattle.writer.specs.Pack.{isZero, sparseRule, sent, codeBytes, eleme
 abbrev pub InRange : List ℕ → Type 0
 InRange cs = (k : ℕ) → T (inRange (ofBits binary64 (getD cs k 0)))
 
+-- ---- the pass that takes no branch
+-- a correlation's bits below the two highest, with those of the least normal number, 2^-1022, added
+abbrev pub raise : ℕ → ℕ
+raise c = c % 2 ^ 62 + 2 ^ 52
+
+-- the bits that are set in one of the first k correlations, itself or raised
+abbrev pub bitsMet : List ℕ → ℕ → ℕ
+bitsMet cs zero = 0
+bitsMet cs (suc k) = bitOr (bitsMet cs k) (bitOr (getD cs k 0) (raise (getD cs k 0)))
+
+-- how many of them are raised to no more than that number
+abbrev pub leastMet : List ℕ → ℕ → ℕ
+leastMet cs zero = 0
+leastMet cs (suc k) = leastMet cs k + pick (eqb (raise (getD cs k 0)) (2 ^ 52)) 1 0
+
+-- ---- what is counted on
 -- a length that has codes
 abbrev pub Supported : ℕ → Type 0
 Supported L = (1 ≤ L) × (L ≤ 8)

@@ -8,10 +8,11 @@ use imapb::encode::check_range;
 use layout::pack::SdccFlp;
 use layout::triangle::corr_slots;
 ghost use mathlib.Core.Path.{_≡_};
-ghost use Prim.Native.Nat.{_/_, _%_, _^_};
+ghost use lib.ListN.{length};
 ghost use Rattle.answers.specs.Listed.{checked};
-ghost use Rattle.writer.specs.Listed.{zeros, countListed, counted, refusedCount};
+ghost use Rattle.writer.specs.Listed.{countListed, counted, refusedCount};
 ghost use Rattle.writer.specs.Rules.{countRules};
+ghost use Rattle.writer.specs.Fill.{bitsMet, leastMet};
 
 // How many correlations are 0, or the refusal of the first that lies outside.
 pub enum Counted {
@@ -70,15 +71,16 @@ fn check_each(correlations: &[u64]) -> Counted
     Counted::Zeros(zeros)
 }
 
-// The bits that are set in one number or another, themselves or raised, and how many of them are 0.
+// The bits that are set in one number or another, itself or raised, and how many of them are 0.
 pub(crate) struct Tally {
     bits: u64,
     zeros: usize,
 }
 
-// The one pass that checks and counts, with no branch. Where the second highest bit is clear, every number is below 1 without its sign.
+// The one pass that checks and counts, with no branch. Where the second highest bit is clear, every number is below 1 without its sign, and the zeros are counted.
 fn tally_of(correlations: &[u64]) -> Tally
-    ensures { λ r. ⌜ (r .bits / 2 ^ 62 % 2 ≡ 0 → zeros (r .zeros) ≡ counted (now (correlations .entry))) ⌝ }
+    ensures { λ r. ⌜ (r .bits ≡ bitsMet (now (correlations .entry)) (length (now (correlations .entry))))
+        × (r .zeros ≡ leastMet (now (correlations .entry)) (length (now (correlations .entry)))) ⌝ }
 {
     let mut bits: u64 = 0;
     let mut zeros: usize = 0;

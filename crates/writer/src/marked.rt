@@ -5,9 +5,9 @@ use crate::zero::zero_of;
 ghost use mathlib.Core.Path.{_≡_};
 ghost use mathlib.Core.Bool.{true, not};
 ghost use mathlib.Core.List.{_++_};
-ghost use Prim.Native.Nat.{_+_, _-_, _*_, _/_, _≤_};
+ghost use Prim.Native.Nat.{_+_, _-_, _*_, _/_, _≤_, _<_};
 ghost use lib.Dec.{T};
-ghost use lib.ListN.{length, getD};
+ghost use lib.ListN.{length, getD, set};
 ghost use lib.Seq.{sets};
 ghost use lib.Ieee.{binary64, ofBits};
 ghost use Rattle.answers.specs.Lent.{tab};
@@ -71,32 +71,33 @@ fn write_group(correlations: &[u64], from: usize, clen: usize, at: usize, out: &
     Group { bits, next }
 }
 
-// Eight slots of a sparse pack, their codes by words.
+// Eight slots of a sparse pack, their codes by words, and their byte of the Bit Vector to a place before them: where the next code goes.
+// Each bit is added in its place, and the correlation is looked at again behind that: so the compiler tests it where it stands.
 fn write_group_words(
     correlations: &[u64],
     from: usize,
     clen: usize,
     at: usize,
+    place: usize,
     out: &mut [u8],
-) -> Group
-    requires { ⌜ Supported clen × InRange (now correlations) × (from + 8 ≤ length (now correlations)) × (at + 8 * clen + 8 ≤ length (now out)) ⌝ }
-    ensures { λ r. ⌜ (r .bits ≡ groupBits (now (correlations .entry)) from)
-        × (r .next ≡ at + length (groupBytes (now (correlations .entry)) from clen))
-        × (now (out .exit) ≡ sets (now (out .entry)) at (groupBytes (now (correlations .entry)) from clen ++ spill true (now (correlations .entry)) clen from 8)) ⌝ }
+) -> usize
+    requires { ⌜ Supported clen × InRange (now correlations) × (from + 8 ≤ length (now correlations)) × (place < at) × (at + 8 * clen + 8 ≤ length (now out)) ⌝ }
+    ensures { λ r. ⌜ (r ≡ at + length (groupBytes (now (correlations .entry)) from clen))
+        × (now (out .exit) ≡ sets (set (now (out .entry)) place (groupBits (now (correlations .entry)) from)) at
+        (groupBytes (now (correlations .entry)) from clen ++ spill true (now (correlations .entry)) clen from 8)) ⌝ }
 {
-    let mut bits: u8 = 0;
+    out[place] = 0;
     let mut next = at;
     let mut j: usize = 0;
     while j < 8 {
-        let value = correlations[from + j];
-        if value % 0x8000_0000_0000_0000 != 0 {
-            bits += 128 >> j;
-            put_word(value, next, out);
+        if correlations[from + j] % 0x8000_0000_0000_0000 != 0 {
+            out[place] = out[place] + (128 >> j);
+            put_word(correlations[from + j], next, out);
             next += clen;
         }
         j += 1;
     }
-    Group { bits, next }
+    next
 }
 
 // The first slots of a sparse pack, eight to a byte of the Bit Vector, by words while those end before the pack does. That there are eight more follows.
@@ -127,9 +128,7 @@ fn write_sent_words(
     let mut next = codes;
     let mut i: usize = 0;
     while next <= limit {
-        let group = write_group_words(correlations, 8 * i, clen, next, out);
-        out[vector + i] = group.bits;
-        next = group.next;
+        next = write_group_words(correlations, 8 * i, clen, next, vector + i, out);
         i += 1;
     }
     Sent { bytes: i, next }

@@ -1,9 +1,10 @@
 //! Which correlations count as 0: by their bits, and by a comparison of numbers, of which the compiler makes two at once.
 ghost use mathlib.Core.Path.{_≡_};
-ghost use Prim.Native.Nat.{_+_, _%_, _^_, _≤_, _<_};
+ghost use Prim.Native.Nat.{_+_, _^_, _≤_, _<_};
 ghost use lib.Dec.{eqb};
 ghost use Rattle.answers.specs.Table.{pick};
 ghost use Rattle.writer.specs.Pack.{isZero};
+ghost use Rattle.writer.specs.Fill.{raise};
 
 // 1 for +0.0 and -0.0, by their bits, and 0 for every other number.
 pub(crate) fn zero_of(value: u64) -> usize
@@ -19,7 +20,7 @@ pub(crate) fn zero_of(value: u64) -> usize
 // The bits below the two highest, and those of the least normal number, 2^-1022, added. They are the bits of a normal number, where `value` may be a NaN, which is compared with nothing.
 // The second highest bit is set in them or in `value` exactly where that is a NaN or, without its sign, 1 or more.
 pub(crate) fn raised(value: u64) -> u64
-    ensures { λ r. ⌜ r ≡ value % 2 ^ 62 + 2 ^ 52 ⌝ }
+    ensures { λ r. ⌜ r ≡ raise value ⌝ }
 {
     value % 0x4000_0000_0000_0000 + 0x0010_0000_0000_0000
 }

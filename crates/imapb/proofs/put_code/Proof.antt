@@ -11,9 +11,6 @@ use Rattle.numbers.specs.Words.{bytesOf}
 use Rattle.numbers.proofs.Bytes.{length-bytes}
 use Rattle.imapb.proofs.put_code.Statement.{statement}
 use Rattle.imapb.proofs.put_code.Tie as tie
-use Rattle.imapb.proofs.put_code.Reads as reads
-use Rattle.imapb.proofs.put_code.Lts as lts
-use Rattle.numbers.proofs.words.write_be.Reads as write-be-reads
 
 abbrev Inv-loop : tie.InvT-loop
 Inv-loop y length out₀ code i₀ out i = Front (bytesOf length y) out₀ i out

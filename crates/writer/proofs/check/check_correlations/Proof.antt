@@ -1,6 +1,10 @@
 -- `check::check_correlations` meets its contract, by the one pass or by the plain form.
 -- Assumes nothing.
+use native.Mathlib.Omega.{arith}
 use borrow.Author.Needs.{needs}
+use lib.ListN.{length}
+use Rattle.writer.proofs.Checked.{passed-all}
+use Rattle.writer.proofs.Raised.{met-passed}
 use Rattle.writer.proofs.check.check_correlations.Statement.{statement}
 use Rattle.writer.proofs.check.check_correlations.Tie as tie
 
@@ -8,7 +12,10 @@ tally-of-requires : tie.Need-tally-of-requires
 tally-of-requires c κs = search needs
 
 returns : tie.Need-returns
-returns c = c .before .before .tally-of .ensures (c .if1 .taken)
+returns c =
+    let t = c .before .before in
+    let cs = t .before .before .args .correlations .now in
+    rw (t .tally-of .ensures .1) (passed-all (met-passed cs (length cs) (omega arith) (rw (t .tally-of .ensures .0) at (c .if1 .taken))) (omega arith))
 
 check-each-requires : tie.Need-check-each-requires
 check-each-requires c κs = search needs

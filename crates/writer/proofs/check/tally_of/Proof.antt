@@ -1,24 +1,24 @@
--- `check::tally_of` meets its contract. The invariant: where the second highest bit is clear, those passed lie within and are counted.
+-- `check::tally_of` meets its contract.
 -- Assumes nothing.
-use mathlib.Core.Path.{_≡_}
-use Prim.Native.Nat.{_-_, _/_, _%_, _^_, _≤_}
+use mathlib.Core.Path.{_≡_, refl}
+use Prim.Native.Nat.{_+_, _-_, _≤_}
+use native.Mathlib.Numerals.{add-one}
 use native.Mathlib.Omega.{arith}
 use borrow.Author.Needs.{needs}
-use lib.Dec.{eqb}
 use lib.ListN.{length}
-use Rattle.writer.proofs.Checked.{Passed, passed-none, passed-all}
-use Rattle.writer.proofs.Raised.{one-at-most, raised-more}
+use Rattle.writer.specs.Fill.{bitsMet, leastMet}
+use Rattle.writer.proofs.Raised.{least-le}
 use Rattle.writer.proofs.check.tally_of.Statement.{statement}
 use Rattle.writer.proofs.check.tally_of.Tie as tie
 
 abbrev Inv-loop : tie.InvT-loop
-Inv-loop correlations bits₀ zeros₀ k₀ bits zeros k = (k ≤ length correlations) × (zeros ≤ k) × (bits / 2 ^ 62 % 2 ≡ 0 → Passed correlations zeros k)
+Inv-loop correlations bits₀ zeros₀ k₀ bits zeros k = (k ≤ length correlations) × (bits ≡ bitsMet correlations k) × (zeros ≡ leastMet correlations k)
 
 abbrev μ-loop : tie.MeasureT-loop
 μ-loop correlations bits₀ zeros₀ k₀ bits zeros k = length correlations - k
 
 loop-holds : tie.Need-loop-holds Inv-loop μ-loop
-loop-holds c = (omega arith, omega arith, λ _. passed-none (c .before .args .correlations .now))
+loop-holds c = (omega arith, refl, refl)
 
 mul-raised : tie.Need-mul-raised Inv-loop μ-loop
 mul-raised c = omega arith
@@ -38,8 +38,18 @@ shared-slice-read-bits c = omega arith
 least-of-requires : tie.Need-least-of-requires Inv-loop μ-loop
 least-of-requires c κs = let e = c .before .raised .ensures in (omega arith, omega arith)
 
+-- a turn's count
+more : (c : tie.After-least-of Inv-loop μ-loop)
+    → let l = c .before .before .before .before .before in
+    l .loop .zeros + c .least-of .result ≡ leastMet (l .before .before .args .correlations .now) (l .loop .k + 1)
+more c =
+    let l = c .before .before .before .before .before in
+    rw (add-one, c .least-of .ensures, c .before .before .raised .ensures, l .loop .inv .2)
+
 add-zeros : tie.Need-add-zeros Inv-loop μ-loop
-add-zeros c = omega (arith, c .least-of .ensures, one-at-most (eqb (c .before .before .raised .result) (2 ^ 52)))
+add-zeros c =
+    let l = c .before .before .before .before .before in
+    omega (arith, more c, least-le (l .before .before .args .correlations .now) (l .loop .k + 1))
 
 add-k : tie.Need-add-k Inv-loop μ-loop
 add-k c = omega arith
@@ -48,16 +58,13 @@ loop-less : tie.Need-loop-less Inv-loop μ-loop
 loop-less c = omega arith
 
 loop-again : tie.Need-loop-again Inv-loop μ-loop
-loop-again c =
-    let l = c .before .before .before .before .before in
-    let high = c .before .before .raised .result in (
-      omega arith,
-      omega (arith, c .least-of .ensures, one-at-most (eqb high (2 ^ 52))),
-      raised-more (l .before .before .args .correlations .now) (l .loop .zeros) (l .loop .k) (l .loop .bits) (c .least-of .result) high (omega arith) (l .loop .inv .2) (c .before .before .raised .ensures) (c .least-of .ensures),
-    )
+loop-again c = let l = c .before .before .before .before .before in (omega arith, rw (add-one, c .before .before .raised .ensures, l .loop .inv .1), more c)
 
 returns : tie.Need-returns Inv-loop μ-loop
-returns c e = passed-all (c .before .loop .inv .2 e) (omega arith)
+returns c =
+    let l = c .before .loop in
+    let e : l .k ≡ length (c .before .before .before .args .correlations .now) = omega arith in
+    rw (← e) (l .inv .1, l .inv .2)
 
 pub tally-of-spec : {M : Type 1} → statement M
 tally-of-spec =

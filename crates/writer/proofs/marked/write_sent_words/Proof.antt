@@ -1,6 +1,6 @@
 -- `marked::write_sent_words` meets its contract: each turn puts eight slots' words over what those before them left, and their byte of the Bit Vector.
 -- Assumes nothing.
-use Prim.Native.Nat.{_+_, _-_, _/_, _<_}
+use Prim.Native.Nat.{_-_, _/_, _<_}
 use native.Mathlib.Omega.{arith}
 use lib.ListN.{length}
 use Rattle.writer.proofs.SentWords.{SentWords, sent-words-none, sent-words-long, sent-words-left, sent-words-place, sent-words-more, sent-words-done}
@@ -44,25 +44,14 @@ left c = sent-words-left (c .before .loop .inv) (c .before .before .before .befo
 mul-write-group-words : tie.Need-mul-write-group-words Inv-loop μ-loop
 mul-write-group-words c = omega (arith, left c)
 
+add-write-group-words : tie.Need-add-write-group-words Inv-loop μ-loop
+add-write-group-words c = omega (arith, sent-words-place (c .before .loop .inv) (left c))
+
 write-group-words-requires : tie.Need-write-group-words-requires Inv-loop μ-loop
 write-group-words-requires c κs =
     let l = c .before .before in
     let s = l .before .before .before .before in
-    (s .pre .0, s .pre .1, omega (arith, left (c .before)), omega (arith, sent-words-long (l .loop .inv)))
-
--- the byte's place
-place : (c : tie.After-write-group-words Inv-loop μ-loop)
-    → let l = c .before .before .before in
-    l .before .before .before .before .args .vector + l .loop .i < length (c .write-group-words .last .1 .1 .1 .1 .0)
-place c =
-    let l = c .before .before .before in
-    sent-words-place (l .loop .inv) (left (c .before .before)) (c .write-group-words .ensures .2) (l .before .before .before .before .pre .5)
-
-add-out : tie.Need-add-out Inv-loop μ-loop
-add-out c = omega (arith, place (c .before .before))
-
-slice-write-out : tie.Need-slice-write-out Inv-loop μ-loop
-slice-write-out c = place (c .before .before)
+    (s .pre .0, s .pre .1, omega (arith, left (c .before)), sent-words-place (l .loop .inv) (left (c .before)), omega (arith, sent-words-long (l .loop .inv)))
 
 add-i : tie.Need-add-i Inv-loop μ-loop
 add-i c = omega (arith, left (c .before .before .before .before))
@@ -72,11 +61,10 @@ loop-less c = omega (arith, left (c .before .before .before .before))
 
 loop-again : tie.Need-loop-again Inv-loop μ-loop
 loop-again c =
-    let w = c .before .before in
-    let l = w .before .before .before in
+    let w = c .before .before .write-group-words in
+    let l = c .before .before .before .before .before in
     let s = l .before .before .before .before in
-    sent-words-more (l .loop .inv) (left (w .before .before)) (w .write-group-words .ensures .2) (s .pre .0) (s .pre .1) (omega arith)
-    (w .write-group-words .ensures .1) (w .write-group-words .ensures .0)
+    sent-words-more (l .loop .inv) (left (c .before .before .before .before)) (s .pre .0) (s .pre .1) (omega arith) (w .ensures .1) (w .ensures .0)
 
 same-length : tie.Need-same-length Inv-loop μ-loop
 same-length c = sent-words-long (c .before .loop .inv)
@@ -97,9 +85,8 @@ write-sent-words-spec =
     sub-limit
     loop-holds
     mul-write-group-words
+    add-write-group-words
     write-group-words-requires
-    add-out
-    slice-write-out
     add-i
     loop-less
     loop-again
