@@ -5,6 +5,9 @@ use crate::control::parse_mode2;
 use numbers::ber_oid::BerOid;
 use numbers::ber_oid::read_ber_oid;
 ghost use mathlib.Core.Path.{_≡_};
+ghost use mathlib.Core.List.{[], _∷_};
+ghost use Rattle.answers.specs.Table.{answer, wholes};
+ghost use Rattle.numbers.specs.BerOid.{oidRead};
 ghost use Rattle.layout.specs.Listed.{headerOf};
 
 // What the first two elements say, and where the third starts; or that they are not whole.
@@ -17,21 +20,18 @@ pub enum Header {
     Short,
 }
 
-// Rules a) and b).
-pub fn read_header(bytes: &[u8]) -> Header
+// Rule b), behind N, which took so many bytes. Apart from N's own reading, so that a caller who needs less of the control works out less of it.
+pub(crate) fn header_behind(bytes: &[u8], n: u32, taken: usize) -> Header
+    requires { ⌜ answer 0 (wholes (n ∷ taken ∷ [])) ≡ oidRead (now bytes) ⌝ }
     ensures { λ r. ⌜ r ≡ headerOf (now (bytes .entry)) ⌝ }
 {
-    let oid = read_ber_oid(bytes);
-    let BerOid::Read { value, taken } = oid else {
-        return Header::Short;
-    };
     if bytes.len() <= taken {
         return Header::Short;
     }
     let first = bytes[taken];
     if first < 128 {
         return Header::Open {
-            n: value,
+            n,
             control: parse_mode1(first),
             body: taken + 1,
         };
@@ -40,8 +40,19 @@ pub fn read_header(bytes: &[u8]) -> Header
         return Header::Short;
     }
     Header::Open {
-        n: value,
+        n,
         control: parse_mode2(first, bytes[taken + 1]),
         body: taken + 2,
     }
+}
+
+// Rules a) and b).
+pub fn read_header(bytes: &[u8]) -> Header
+    ensures { λ r. ⌜ r ≡ headerOf (now (bytes .entry)) ⌝ }
+{
+    let oid = read_ber_oid(bytes);
+    let BerOid::Read { value, taken } = oid else {
+        return Header::Short;
+    };
+    header_behind(bytes, value, taken)
 }

@@ -1,11 +1,13 @@
 //! The rules that a pack's size decides.
 use crate::control::ParseControl;
 use crate::header::Header;
-use crate::header::read_header;
+use crate::header::header_behind;
 use crate::pack::SdccFlp;
 use crate::triangle::corr_slots;
 use answers::Check;
 use answers::Refusal;
+use numbers::ber_oid::BerOid;
+use numbers::ber_oid::read_ber_oid;
 ghost use mathlib.Core.Path.{_≡_};
 ghost use mathlib.Core.List.{[]};
 ghost use lib.Dec.{ltb};
@@ -66,7 +68,11 @@ pub fn check_matrix_size_fits(n: u32, remaining: usize, control: ParseControl) -
 pub fn peek_matrix_size(bytes: &[u8]) -> Peek
     ensures { λ r. ⌜ r ≡ peeked (now (bytes .entry)) ⌝ }
 {
-    let header = read_header(bytes);
+    let oid = read_ber_oid(bytes);
+    let BerOid::Read { value, taken } = oid else {
+        return Peek::Nothing;
+    };
+    let header = header_behind(bytes, value, taken);
     let Header::Open { n, control, body } = header else {
         return Peek::Nothing;
     };

@@ -21,22 +21,6 @@ use Rattle.writer.specs.Pack.{isZero, sparseRule, sent, codeBytes, eleme
 abbrev pub InRange : List ℕ → Type 0
 InRange cs = (k : ℕ) → T (inRange (ofBits binary64 (getD cs k 0)))
 
--- ---- the pass that takes no branch
--- a correlation's bits below the two highest, with those of the least normal number, 2^-1022, added
-abbrev pub raise : ℕ → ℕ
-raise c = c % 2 ^ 62 + 2 ^ 52
-
--- the bits that are set in one of the first k correlations, itself or raised
-abbrev pub bitsMet : List ℕ → ℕ → ℕ
-bitsMet cs zero = 0
-bitsMet cs (suc k) = bitOr (bitsMet cs k) (bitOr (getD cs k 0) (raise (getD cs k 0)))
-
--- how many of them are raised to no more than that number
-abbrev pub leastMet : List ℕ → ℕ → ℕ
-leastMet cs zero = 0
-leastMet cs (suc k) = leastMet cs k + pick (eqb (raise (getD cs k 0)) (2 ^ 52)) 1 0
-
--- ---- what is counted on
 -- a length that has codes
 abbrev pub Supported : ℕ → Type 0
 Supported L = (1 ≤ L) × (L ≤ 8)
@@ -93,6 +77,21 @@ groupBits cs from = spelt 2 0 (tab 8 (λ j. pick (sent true cs (from + j)) 1 0))
 -- n groups from group i on, one behind the other
 abbrev pub groups : List ℕ → ℕ → ℕ → ℕ → List ℕ
 groups cs L i n = joined n (λ k. groupBytes cs (8 * (i + k)) L)
+
+-- ---- the pass that checks and counts with no branch
+-- a correlation's bits below the two highest, with those of the least normal number, 2^-1022, added
+abbrev pub raise : ℕ → ℕ
+raise c = c % 2 ^ 62 + 2 ^ 52
+
+-- the bits that are set in one of the first k correlations, itself or raised
+abbrev pub bitsMet : List ℕ → ℕ → ℕ
+bitsMet cs zero = 0
+bitsMet cs (suc k) = bitOr (bitsMet cs k) (bitOr (getD cs k 0) (raise (getD cs k 0)))
+
+-- how many of them are raised to no more than that number
+abbrev pub leastMet : List ℕ → ℕ → ℕ
+leastMet cs zero = 0
+leastMet cs (suc k) = leastMet cs k + pick (eqb (raise (getD cs k 0)) (2 ^ 52)) 1 0
 
 -- ---- codes by words of eight bytes
 -- the code of eight bytes
