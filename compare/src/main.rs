@@ -13,7 +13,7 @@ mod klv {
     include!(concat!(env!("OUT_DIR"), "/klv.rs"));
 }
 
-use kinds::{hex, print, Case, KINDS};
+use kinds::{hex, print, Case, Kind, KINDS};
 use program::written;
 use random::Random;
 use std::env;
@@ -27,6 +27,10 @@ use std::process::ExitCode;
 const SHOWN: usize = 10;
 const WIDTH: usize = 300;
 
+// How many requests at the limits a sample has of each kind, and how long they may be.
+const FEW: usize = 140;
+const SHORT: usize = 600;
+
 fn at_the_limits() -> Vec<Case> {
     KINDS.iter().flat_map(|kind| (kind.limits)()).collect()
 }
@@ -37,6 +41,17 @@ fn at_random(seed: u64, count: usize) -> Vec<Case> {
     let turn = KINDS.iter().flat_map(|kind| repeat_n(kind, kind.share));
     let kinds = turn.cycle().take(count);
     kinds.map(|kind| (kind.random)(&mut random)).collect()
+}
+
+// Some of the short ones of each kind, evenly spaced.
+fn few_at_the_limits() -> Vec<Case> {
+    let few = |kind: &Kind| {
+        let mut cases = (kind.limits)();
+        cases.retain(|case| case.request.len() <= SHORT);
+        let step = cases.len().div_ceil(FEW).max(1);
+        cases.into_iter().step_by(step)
+    };
+    KINDS.iter().flat_map(few).collect()
 }
 
 fn lines_of(cases: &[Case], line: fn(&Case) -> &str) -> String {
@@ -130,7 +145,8 @@ fn runs(seed: u64, program: &[String]) -> io::Result<ExitCode> {
 
 // The requests into sample.req, and the Rust's answers into sample.ans.
 fn sample(seed: u64, count: usize, folder: &Path) -> io::Result<ExitCode> {
-    let cases = at_random(seed, count);
+    let mut cases = few_at_the_limits();
+    cases.extend(at_random(seed, count));
     let requests = folder.join("sample.req");
     let answers = folder.join("sample.ans");
     fs::write(&requests, lines_of(&cases, |case| &case.request))?;

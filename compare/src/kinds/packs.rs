@@ -3,7 +3,7 @@ use super::oid::spelled;
 use crate::random::Random;
 
 // The bytes of a pack that a request has to be taken with.
-pub const LONGEST: usize = 300_000;
+pub const LONGEST: usize = 600_000;
 
 // What Parse Control says; `ignored` are the bits of its two bytes in Mode 2 that say nothing.
 #[derive(Clone, Copy)]

@@ -108,6 +108,21 @@ pub fn of_sizes(seed: u64, sizes: &[u64]) -> Vec<Vec<u8>> {
     packs
 }
 
+// The most rows with the longest codes, which no reader takes: whole, one byte short and one byte over.
+pub fn of_long_codes() -> Vec<Vec<u8>> {
+    let mut random = Random::new(8);
+    let mut packs = Vec::new();
+    for clen in 9..=15 {
+        for (cs, cf) in [(false, true), (false, false), (true, true), (true, false)] {
+            let whole = pack(&mut random, 256, 0, Control::of(cs, cf, clen, 4)).bytes;
+            packs.push(whole[..whole.len() - 1].to_vec());
+            packs.push([whole.as_slice(), &[0x00]].concat());
+            packs.push(whole);
+        }
+    }
+    packs
+}
+
 pub fn longest() -> Vec<u8> {
     with_d(&[0x02, 0x91, 0x04], &[0x60; LONGEST - 11])
 }

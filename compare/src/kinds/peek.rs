@@ -1,5 +1,6 @@
 //! `peek HEX`: the size that a pack says, by the Rust's `peek_matrix_size`.
-use super::packs_at_limits::{documented, every_control, every_short, every_size, longest, padded};
+use super::packs_at_limits::{documented, every_control, every_short, every_size};
+use super::packs_at_limits::{longest, of_long_codes, padded};
 use super::packs_at_random::made;
 use super::{hex, Case, Kind};
 use crate::klv::st1010::peek_matrix_size;
@@ -25,7 +26,8 @@ pub(super) fn case(bytes: &[u8]) -> Case {
 
 fn limits() -> Vec<Case> {
     let mut strings = every_short();
-    for more in [documented(), padded(), every_control(), every_size()] {
+    let longer = [every_control(), every_size(), of_long_codes()];
+    for more in [documented(), padded()].into_iter().chain(longer) {
         strings.extend(more);
     }
     strings.push(longest());

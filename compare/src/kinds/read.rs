@@ -1,6 +1,7 @@
 //! `read DROOM CROOM PROOM HEX`: a whole pack, by the Rust's `decode_sdcc_flp`.
 use super::packs::{pack, slots, Control};
-use super::packs_at_limits::{documented, every_control, every_short, every_size, longest, padded};
+use super::packs_at_limits::{documented, every_control, every_short, every_size};
+use super::packs_at_limits::{longest, of_long_codes, padded};
 use super::packs_at_random::made;
 use super::widen::wide_nan;
 use super::{hex, Case, Kind};
@@ -151,7 +152,8 @@ fn limits() -> Vec<Case> {
     for small in [every_short(), documented(), padded(), every_control()] {
         cases.extend(small.iter().map(|bytes| case(SMALL, bytes)));
     }
-    for any in [documented(), every_size(), vec![longest()]] {
+    let long = [of_long_codes(), vec![longest()]];
+    for any in [documented(), every_size()].into_iter().chain(long) {
         cases.extend(any.iter().map(|bytes| case(LARGEST, bytes)));
     }
     cases
