@@ -118,7 +118,8 @@ module _ {f : Format} {shift : Float} {W c t r : ℕ} (R : Range f shift W c t r
         (omega arith) (omega arith) (room-steps y r (omega arith) h) (room-steps W r (omega arith) (R .zero-in))
 
     -- Less than a step below v, and above it by the sum's rounding alone.
-    -- A code with more digits than the format keeps needs another lemma in the place of `value-lies`: that its value lies at the rounded sum itself.
+    -- A code with more digits than the format keeps needs another lemma in the place of `value-lies`: that its value
+    -- lies at the rounded sum itself.
     pub back-near : {v : Float} (j : ℕ) → c + r ≡ prec f + suc j → Placed f W c r v → Near f (2 ^ j) (2 ^ r) v (valueIn f shift t (codeIn f shift t v))
     back-near {v} j e p =
         let n = p .count in

@@ -1,4 +1,5 @@
--- The sum with 1 of a number from -1 to 1 is a whole number of steps of 2 ^ -prec, where the format's digits are `prec`.
+-- The sum with 1 of a number from -1 to 1 is a whole number of steps of 2 ^ -prec, where the format's digits are
+-- `prec`.
 -- Assumes nothing.
 use mathlib.Core.Path.{_≡_, refl, sym, ap, _∙_}
 use mathlib.Core.Bool.{Bool, true, false, _&&_}

@@ -1,4 +1,5 @@
--- The rule of a table at each entry: that the table is the list of the rule's values, which antt computes once, gives it.
+-- The rule of a table at each entry: that the table is the list of the rule's values, which antt computes once, gives
+-- it.
 -- Assumes nothing.
 use mathlib.Core.Path.{_≡_, _∙_, ap}
 use mathlib.Core.List.{List, [], _∷_}

@@ -1,4 +1,5 @@
--- What the writer of a code needs of the scaled sum: a number from 0 on and below 2 ^ 64, so that its whole part is defined.
+-- What the writer of a code needs of the scaled sum: a number from 0 on and below 2 ^ 64, so that its whole part is
+-- defined.
 -- Assumes nothing.
 use mathlib.Core.Path.{_≡_, refl}
 use mathlib.Core.Bool.{true, false}

@@ -1,4 +1,5 @@
--- What a mapped number costs in precision. Everything is taken 2^1074-fold, so that each binary64 is exactly a whole number.
+-- What a mapped number costs in precision. Everything is taken 2^1074-fold, so that each binary64 is exactly a whole
+-- number.
 use Prim.Native.Nat.{ℕ, _-_, _*_, _/_, _^_}
 use mathlib.Core.Path.{_≡_}
 use mathlib.Core.Bool.{true, false}

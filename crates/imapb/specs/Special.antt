@@ -46,7 +46,8 @@ specialCode L s = family s * 2 ^ (8 * L - 5) + payload L s
 
 -- Table 3
 abbrev pub overflowReading : ℕ → ℕ → ℕ → DecodedImapb
-overflowReading L p y = pick (eqb p 0) (Special BelowMin) (pick (eqb p (2 ^ (8 * L - 8))) (Special AboveMax) (ReservedSpecial y))
+overflowReading L p y =
+    pick (eqb p 0) (Special BelowMin) (pick (eqb p (2 ^ (8 * L - 8))) (Special AboveMax) (ReservedSpecial y))
 
 -- a code y with its top two bits set, of the family f and the payload p: what is in neither table is reserved
 abbrev pub specialReading : ℕ → ℕ → ℕ → ℕ → DecodedImapb

@@ -42,11 +42,14 @@ imapbRead L bytes =
 -- v, by its bits, is NaN, infinite or outside -1 to 1: 3 with it, -1, 1
 abbrev pub rangeRule : ℕ → Answer
 rangeRule v =
-    pick (not (inRange (ofBits binary64 v))) (answer 3 (bits64 v ∷ bits64 (toBits binary64 minusOne) ∷ bits64 (toBits binary64 one) ∷ [])) passes
+    pick (not (inRange (ofBits binary64 v)))
+    (answer 3 (bits64 v ∷ bits64 (toBits binary64 minusOne) ∷ bits64 (toBits binary64 one) ∷ []))
+    passes
 
 -- the code alone, where there is one
 abbrev pub imapbCode : ℕ → ℕ → ImapbCode
-imapbCode L v = pick (supported L && inRange (ofBits binary64 v)) (imapb.Of (codeOf L (ofBits binary64 v))) imapb.Nothing
+imapbCode L v =
+    pick (supported L && inRange (ofBits binary64 v)) (imapb.Of (codeOf L (ofBits binary64 v))) imapb.Nothing
 
 -- what the length decides, where it has codes
 abbrev pub mappingOf : ℕ → Mapping

@@ -7,7 +7,8 @@ ghost use Rattle.imapb.specs.Mapping.{valueOf};
 ghost use Rattle.imapb.specs.Special.{overflowReading, specialReading, reading};
 ghost use Rattle.imapb.specs.Tables.{imapbListed, imapbRead};
 
-// Under the Rust's names: a value, a special, a pattern that the tables reserve with its y, or a number above the range.
+// Under the Rust's names: a value, a special, a pattern that the tables reserve with its y, or a number above the
+// range.
 pub enum DecodedImapb {
     Value(f64),
     Special(ImapbSpecial),

@@ -72,7 +72,8 @@ pub fn imapb_code(length: usize, value: u64) -> ImapbCode
 // The code of the number whose bits are given into the front of `out`.
 pub fn encode_imapb(length: usize, value: u64, out: &mut [u8]) -> Written
     ensures { λ r. ⌜ (written r ≡ imapbWritten length value (lengthOf (now (out .entry))))
-        × (now (out .exit) ≡ leaves (written r) (bytesOf length (codeOf length (ofBits binary64 value))) (now (out .entry))) ⌝ }
+        × (now (out .exit)
+        ≡ leaves (written r) (bytesOf length (codeOf length (ofBits binary64 value))) (now (out .entry))) ⌝ }
 {
     if length < 1 {
         return Written::Refused(Refusal::UnsupportedImapbLength { length });

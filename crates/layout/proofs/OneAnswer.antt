@@ -6,6 +6,7 @@ use Rattle.answers.proofs.OneToOne.{checked-one}
 use Rattle.layout.proofs.control.parse_mode1.Reads as parse-mode1
 use Rattle.layout.proofs.control.parse_mode2.Reads as parse-mode2
 use Rattle.layout.proofs.header.read_header.Reads as read-header
+use Rattle.layout.proofs.pack.bounded_slots.Reads as bounded-slots
 use Rattle.layout.proofs.size.check_matrix_size_fits.Reads as check-matrix-size-fits
 use Rattle.layout.proofs.size.peek_matrix_size.Reads as peek-matrix-size
 use Rattle.layout.proofs.triangle.corr_slots.Reads as corr-slots
@@ -25,6 +26,9 @@ check-matrix-size-fits-one κs a r r′ s s′ p q = checked-one r r′ (p ∙ s
 
 pub peek-matrix-size-one : OneResult peek-matrix-size.Learnt
 peek-matrix-size-one κs a r r′ s s′ p q = p ∙ sym q
+
+pub bounded-slots-one : OneResult bounded-slots.Learnt
+bounded-slots-one κs a r r′ s s′ p q = p ∙ sym q
 
 pub corr-slots-one : OneResult corr-slots.Learnt
 corr-slots-one κs a r r′ s s′ p q = p ∙ sym q

@@ -2,7 +2,7 @@
 -- Assumes nothing.
 use mathlib.Core.Path.{_≡_, refl, sym, ap}
 use mathlib.Core.Logic.{by-cases}
-use Prim.Native.Nat.{ℕ, zero, suc, _+_, _-_, _*_, _^_, _≤_, _<_}
+use Prim.Native.Nat.{ℕ, zero, suc, min, _+_, _-_, _*_, _^_, _≤_, _<_}
 use native.Mathlib.Nat.{suc-mul, mul-suc, mul-le-mul, le-antisymm}
 use native.Mathlib.Numerals.{add-one}
 use native.Mathlib.Decide.{decLt, le-ind}
@@ -91,9 +91,14 @@ pub slots-mono : {m n : ℕ} → m ≤ n → slotsOf m ≤ slotsOf n
 unfolding slotsOf
 slots-mono {m} {n} h = omega (arith, mul-le-mul {n₁ = m} {m₁ = m - 1} {n₂ = n} {m₂ = n - 1} h (omega arith))
 
+-- the two limits are one
 pub most-slots : slotsOf maxRows ≡ maxSlots
 unfolding slotsOf
 most-slots = refl
 
 pub few-slots : (n : ℕ) → n ≤ maxRows → slotsOf n ≤ maxSlots
 few-slots n h = rw most-slots at (slots-mono {m = n} {n = maxRows} h)
+
+-- so bounding the slots of a matrix within the limits changes nothing
+pub bounded-same : (n : ℕ) → n ≤ maxRows → min (slotsOf n) maxSlots ≡ slotsOf n
+bounded-same n h = omega (arith, few-slots n h)

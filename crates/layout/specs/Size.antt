@@ -30,7 +30,8 @@ isMode2 bytes = leb 128 (getD bytes (controlAt bytes) 0)
 
 abbrev pub controlOf : List ℕ → ParseControl
 controlOf bytes =
-    pick (isMode2 bytes) (mode2 (getD bytes (controlAt bytes) 0) (getD bytes (suc (controlAt bytes)) 0)) (mode1 (getD bytes (controlAt bytes) 0))
+    pick (isMode2 bytes) (mode2 (getD bytes (controlAt bytes) 0) (getD bytes (suc (controlAt bytes)) 0))
+    (mode1 (getD bytes (controlAt bytes) 0))
 
 -- the byte after the control
 abbrev pub bodyAt : List ℕ → ℕ

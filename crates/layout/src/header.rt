@@ -20,7 +20,8 @@ pub enum Header {
     Short,
 }
 
-// Rule b), behind N, which took so many bytes. Apart from N's own reading, so that a caller who needs less of the control works out less of it.
+// Rule b), behind N, which took so many bytes. Apart from N's own reading, so that a caller who needs less of the
+// control works out less of it.
 pub(crate) fn header_behind(bytes: &[u8], n: u32, taken: usize) -> Header
     requires { ⌜ answer 0 (wholes (n ∷ taken ∷ [])) ≡ oidRead (now bytes) ⌝ }
     ensures { λ r. ⌜ r ≡ headerOf (now (bytes .entry)) ⌝ }

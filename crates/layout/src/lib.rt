@@ -1,4 +1,5 @@
-//! The layout of an SDCC-FLP pack: its type and limits, Parse Control, the size check, peek, and the slots of the triangle.
+//! The layout of an SDCC-FLP pack: its type and limits, Parse Control, the size check, peek, and the slots of the
+//! triangle.
 pub mod control;
 pub mod header;
 pub mod pack;

@@ -1,4 +1,5 @@
--- The first entries of a list, tested in turn: what is left after k of them, and what a list that is too short comes to.
+-- The first entries of a list, tested in turn: what is left after k of them, and what a list that is too short comes
+-- to.
 -- Assumes nothing.
 use mathlib.Core.Path.{_≡_, refl, ap₂, _∙_}
 use mathlib.Core.Bool.{Bool, true, false, not, _&&_, and-false}

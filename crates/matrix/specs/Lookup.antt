@@ -26,7 +26,8 @@ noSuchCell i j = answer 7 (wholes (i ∷ j ∷ []))
 
 -- the entry at a place below the pack's own count, if the lent values hold one there; otherwise 7
 abbrev pub entryAnswer : List ℕ → ℕ → ℕ → ℕ → ℕ → Answer
-entryAnswer lent count place i j = pick (ltb place count && ltb place (length lent)) (number (getD lent place 0)) (noSuchCell i j)
+entryAnswer lent count place i j =
+    pick (ltb place count && ltb place (length lent)) (number (getD lent place 0)) (noSuchCell i j)
 
 -- the correlation either way round, and for i=j the deviation; N above the limit, or an index N or more: 7
 abbrev pub cellAnswer : SdccFlp → List ℕ → List ℕ → ℕ → ℕ → Answer

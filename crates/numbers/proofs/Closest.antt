@@ -1,4 +1,5 @@
--- `closest a b`, the whole number nearest to a / b: by how twice the remainder compares with b, of a whole number, and against one.
+-- `closest a b`, the whole number nearest to a / b: by how twice the remainder compares with b, of a whole number,
+-- and against one.
 -- Assumes nothing.
 use mathlib.Core.Path.{_≡_, refl, sym, ap, _∙_, subst}
 use mathlib.Core.Bool.{not}

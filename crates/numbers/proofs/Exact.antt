@@ -1,4 +1,5 @@
--- Widening loses nothing: a finite binary32 and the binary64 that it is converted to are the same number, with the same sign.
+-- Widening loses nothing: a finite binary32 and the binary64 that it is converted to are the same number, with the
+-- same sign.
 -- Assumes nothing.
 use mathlib.Core.Path.{sym, ap, _∙_, subst}
 use mathlib.Core.Bool.{Bool}

@@ -1,4 +1,5 @@
--- A whole number of units of 2 ^ -l as the nearest binary64, and the two uses of it: whole numbers themselves, and binary32's subnormals.
+-- A whole number of units of 2 ^ -l as the nearest binary64, and the two uses of it: whole numbers themselves, and
+-- binary32's subnormals.
 -- Assumes nothing.
 use mathlib.Core.Path.{_≡_, sym, ap, _∙_, subst}
 use mathlib.Core.Bool.{false}

@@ -1,4 +1,5 @@
--- A bit pattern by its sign, its exponent's field and its digits, and what `converted` makes of each kind: laws over both formats.
+-- A bit pattern by its sign, its exponent's field and its digits, and what `converted` makes of each kind: laws over
+-- both formats.
 -- Assumes nothing.
 use mathlib.Core.Path.{_≡_, refl, sym, ap, ap₂, _∙_}
 use mathlib.Core.Bool.{Bool, true, false, cond}

@@ -33,7 +33,8 @@ oidRead bytes =
 
 -- the fewest bytes for a value below 2^32
 abbrev pub oidLength : ℕ → ℕ
-oidLength v = pick (ltb v (128 ^ 1)) 1 (pick (ltb v (128 ^ 2)) 2 (pick (ltb v (128 ^ 3)) 3 (pick (ltb v (128 ^ 4)) 4 5)))
+oidLength v =
+    pick (ltb v (128 ^ 1)) 1 (pick (ltb v (128 ^ 2)) 2 (pick (ltb v (128 ^ 3)) 3 (pick (ltb v (128 ^ 4)) 4 5)))
 
 -- the value's bytes
 unfoldable pub oidBytes : ℕ → List ℕ

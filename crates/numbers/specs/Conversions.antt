@@ -3,7 +3,8 @@ use Prim.Native.Nat.{ℕ, _+_, _*_, _/_, _%_, _^_, _<_}
 use mathlib.Core.Bool.{Bool, false, _&&_, cond}
 use lib.IntN.{pos}
 use lib.Dec.{leb}
-use lib.Ieee.{Float, nan, inf, fin, Format, binary64, hid, ones, top, up, down, round, ofInt, ofBits, toBits, nanBits, toUnsigned, le, lt}
+use lib.Ieee.{Float, nan, inf, fin, Format, binary64, hid, ones, top, up, down}
+use lib.Ieee.{round, ofInt, ofBits, toBits, nanBits, toUnsigned, le, lt}
 use lib.Ieee.Exact.{HasValue}
 use Rattle.answers.specs.Table.{pick}
 use Rattle.numbers.specs.declared.conversions.WholePart.{WholePart}

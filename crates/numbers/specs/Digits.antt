@@ -1,4 +1,5 @@
--- Numbers as lists of digits, the highest first: one pair of definitions for BER-OID (base 128) and for bytes (base 256).
+-- Numbers as lists of digits, the highest first: one pair of definitions for BER-OID (base 128) and for bytes (base
+-- 256).
 use Prim.Native.Nat.{ℕ, zero, suc, _+_, _*_, _/_, _%_, _<_}
 use mathlib.Core.List.{List, [], _∷_, _++_}
 use lib.ListN.{getD}

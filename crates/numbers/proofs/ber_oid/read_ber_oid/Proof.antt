@@ -1,4 +1,5 @@
--- `ber_oid::read_ber_oid` meets its contract. The invariant: the bytes passed have their top bit set and spell the value.
+-- `ber_oid::read_ber_oid` meets its contract. The invariant: the bytes passed have their top bit set and spell the
+-- value.
 -- Assumes nothing.
 use mathlib.Core.Path.{_≡_, refl, sym}
 use mathlib.Core.List.{List}

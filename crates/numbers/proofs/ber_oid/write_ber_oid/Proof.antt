@@ -1,4 +1,5 @@
--- `ber_oid::write_ber_oid` meets its contract. The invariant: with the digits that are left, the bytes are what they were to be.
+-- `ber_oid::write_ber_oid` meets its contract. The invariant: with the digits that are left, the bytes are what they
+-- were to be.
 -- Assumes nothing.
 use mathlib.Core.Path.{refl, _∙_}
 use Prim.Native.Nat.{_≤_}

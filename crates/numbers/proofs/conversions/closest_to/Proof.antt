@@ -1,4 +1,5 @@
--- `closest_to` meets its contract: its three arms are those of `closest`, and a power of two that is no 1 has a half. Assumes nothing.
+-- `closest_to` meets its contract: its three arms are those of `closest`, and a power of two that is no 1 has a half.
+-- Assumes nothing.
 use mathlib.Core.Path.{_≡_, ap, _∙_}
 use Prim.Native.Nat.{ℕ, _*_, _/_, _-_, _^_, _≤_, _<_, Ordering·lt, Ordering·eq, Ordering·gt}
 use native.Mathlib.Nat.{div-lt-iff-lt-mul, pow-succ'}
