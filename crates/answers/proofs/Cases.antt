@@ -1,4 +1,5 @@
--- A value of an enum whose cases carry numbers, as the place of its case and the list of its numbers. One law over all such enums.
+-- A value of an enum whose cases carry numbers, as the place of its case and the list of its numbers. One law over
+-- all such enums.
 -- Assumes nothing.
 use mathlib.Core.Path.{_≡_, refl, ap, ap₂}
 use mathlib.Core.List.{List, [], _∷_}

@@ -1,9 +1,10 @@
 pub mod Cases
-pub mod OneToOne
-pub mod Lent
-pub mod Rules
-pub mod Next
-pub mod Stored
-pub mod Joined
 pub mod InTable
+pub mod Joined
+pub mod Lent
+pub mod Next
+pub mod OneToOne
+pub mod Rules
 pub mod Runs
+pub mod Stored
+pub mod Tab

@@ -22,6 +22,11 @@ none a = eqb (a .number) 0
 pub next-passed : (a b : Answer) → a .number ≡ 0 → next a b ≡ b
 next-passed a b z = rw z
 
+-- an order of rules can be taken in parts
+pub next-next : (a b c : Answer) → next (next a b) c ≡ next a (next b c)
+next-next a b c =
+    picked (λ x. next x c ≡ next a (next b c)) (eqb (a .number) 0) b a (λ t. rw t) (λ f. rw f)
+
 -- where an order of rules refuses nothing, no rule does
 pub next-zero : (a b : Answer) → next a b .number ≡ 0 → (a .number ≡ 0) × (b .number ≡ 0)
 next-zero a b =

@@ -1,4 +1,5 @@
--- Laws of runs of stores, `sets` of the kit: one behind the other, two that do not meet in either order, and one over another.
+-- Laws of runs of stores, `sets` of the kit: one behind the other, two that do not meet in either order, and one over
+-- another.
 -- Assumes nothing.
 use mathlib.Core.Path.{_≡_, refl, ap, _∙_}
 use mathlib.Core.List.{List, [], _∷_, _++_}

@@ -14,7 +14,7 @@ use lib.Pow.{shr-shr}
 use Rattle.answers.specs.Table.{pick}
 use Rattle.layout.specs.Control.{isSet}
 use Rattle.layout.specs.declared.control.ParseControl.{ParseControl}
-use Rattle.reader.specs.Elements.{vectorBit, onesBefore, presentIn, presentBefore}
+use Rattle.elements.specs.Elements.{vectorBit, onesBefore, presentIn, presentBefore}
 
 -- a bit as a number
 pub bit-is : (n : ℕ) → pick (isSet n) 1 0 ≡ n % 2

@@ -14,7 +14,8 @@ use Rattle.imapb.specs.declared.decode.DecodedImapb.the-variants.{Value, Specia
 use Rattle.imapb.specs.Special.{reading}
 use Rattle.layout.specs.declared.control.ParseControl.{ParseControl}
 use Rattle.layout.specs.Control.{isSet}
-use Rattle.reader.specs.declared.head.Head.{Head}
+use Rattle.elements.specs.declared.head.Head.{Head}
+use Rattle.elements.specs.declared.head.Places.{Places}
 use Rattle.layout.specs.Triangle.{slotsOf}
 use Rattle.layout.specs.Size.{matrixSize, controlOf, bodyAt}
 
@@ -58,6 +59,9 @@ module _ (h : Head) where
   -- element 5: a code for each present slot
   abbrev pub codesAt : ℕ
   codesAt = deviationsAt + h .n * h .control .slen
+
+  abbrev pub placesOf : Places
+  placesOf = record { head = h; deviations = deviationsAt; codes = codesAt }
 
 module _ (bytes : List ℕ) (h : Head) where
   abbrev pub presentCount : ℕ

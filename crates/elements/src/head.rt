@@ -1,27 +1,40 @@
 //! What the first two elements say of a pack, and where the others start.
+use answers::Check;
+use answers::Refusal;
 use layout::control::ParseControl;
+use layout::header::Header;
+use layout::header::read_header;
 use layout::pack::SdccFlp;
+use layout::size::check_matrix_size_fits;
 use layout::triangle::corr_slots;
 ghost use mathlib.Core.Path.{_≡_};
-ghost use Rattle.reader.specs.Elements.{vectorLength, deviationsAt, deviationCount, codesAt};
-ghost use Rattle.reader.specs.Fill.{Within};
-ghost use Rattle.reader.specs.Listed.{packOf};
+ghost use Rattle.layout.specs.Size.{fitRules};
+ghost use Rattle.elements.specs.Elements.{vectorLength, deviationCount, placesOf};
+ghost use Rattle.elements.specs.Held.{Within};
+ghost use Rattle.elements.specs.Listed.{packOf, openedListed, verdict};
 
 // What elements 1 and 2 say, and where element 3 starts.
-pub(crate) struct Head {
-    pub(crate) n: u32,
-    pub(crate) control: ParseControl,
-    pub(crate) body: usize,
+pub struct Head {
+    pub n: u32,
+    pub control: ParseControl,
+    pub body: usize,
 }
 
-// Where elements 4 and 5 start.
-pub(crate) struct Places {
-    pub(crate) deviations: usize,
-    pub(crate) codes: usize,
+// And where elements 4 and 5 start.
+pub struct Places {
+    pub head: Head,
+    pub deviations: usize,
+    pub codes: usize,
+}
+
+// The places of a pack that rules have passed, or the refusal of the first that did not.
+pub enum Opened {
+    Pack(Places),
+    Refused(Refusal),
 }
 
 // N deviations, or none for Slen=0.
-pub(crate) fn deviation_count(head: Head) -> usize
+pub fn deviation_count(head: Head) -> usize
     ensures { λ r. ⌜ r ≡ deviationCount head ⌝ }
 {
     if head.control.slen == 0 {
@@ -32,7 +45,7 @@ pub(crate) fn deviation_count(head: Head) -> usize
 }
 
 // The bytes of element 3.
-pub(crate) fn vector_length(head: Head) -> usize
+fn vector_length(head: Head) -> usize
     ensures { λ r. ⌜ r ≡ vectorLength head ⌝ }
 {
     if head.control.cs {
@@ -42,7 +55,8 @@ pub(crate) fn vector_length(head: Head) -> usize
     }
 }
 
-pub(crate) fn pack_of(head: Head) -> SdccFlp
+// What a pack of that head holds.
+pub fn pack_of(head: Head) -> SdccFlp
     ensures { λ r. ⌜ r ≡ packOf head ⌝ }
 {
     SdccFlp {
@@ -52,13 +66,29 @@ pub(crate) fn pack_of(head: Head) -> SdccFlp
     }
 }
 
-pub(crate) fn places_of(bytes: &[u8], head: Head) -> Places
+fn places_of(bytes: &[u8], head: Head) -> Places
     requires { ⌜ Within (now bytes) head ⌝ }
-    ensures { λ r. ⌜ (r .deviations ≡ deviationsAt head) × (r .codes ≡ codesAt head) ⌝ }
+    ensures { λ r. ⌜ r ≡ placesOf head ⌝ }
 {
     let deviations = head.body + vector_length(head);
     Places {
+        head,
         deviations,
         codes: deviations + head.n as usize * head.control.slen as usize,
     }
+}
+
+// Rules a) to g), and where the elements of what passes them start.
+pub fn open_pack(bytes: &[u8]) -> Opened
+    ensures { λ r. ⌜ openedListed r ≡ verdict (now (bytes .entry)) (fitRules (now (bytes .entry))) ⌝ }
+{
+    let header = read_header(bytes);
+    let Header::Open { n, control, body } = header else {
+        return Opened::Refused(Refusal::TruncatedField);
+    };
+    let fits = check_matrix_size_fits(n, bytes.len() - body, control);
+    if let Check::Refused(refusal) = fits {
+        return Opened::Refused(refusal);
+    }
+    Opened::Pack(places_of(bytes, Head { n, control, body }))
 }

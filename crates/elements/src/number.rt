@@ -1,4 +1,5 @@
 //! One number of a pack, a deviation or a slot's correlation, as binary64 bits.
+use answers::Check;
 use answers::Refusal;
 use imapb::decode::DecodedImapb;
 use imapb::decode::ImapbRead;
@@ -9,16 +10,29 @@ use numbers::words::read_be;
 ghost use mathlib.Core.Path.{_≡_};
 ghost use Prim.Native.Nat.{_-_};
 ghost use lib.ListN.{length};
-ghost use Rattle.reader.specs.Elements.{valueBits};
-ghost use Rattle.reader.specs.Numbers.{numberListed, ieeeNumber, deviationNumber, refusedCode, correlationNumber, slotNumber};
+ghost use Rattle.answers.specs.Listed.{checked};
+ghost use Rattle.imapb.specs.Tables.{imapbListed};
+ghost use Rattle.elements.specs.Elements.{valueBits};
+ghost use Rattle.elements.specs.Numbers.{numberListed, refusalOf, ieeeNumber, deviationNumber, codeNumber};
+ghost use Rattle.elements.specs.Numbers.{correlationNumber, slotNumber};
 
 pub enum Number {
     Bits(u64),
     Refused(Refusal),
 }
 
+// What a number's answer is as a rule's: it passes, or is refused.
+pub fn check_number(number: Number) -> Check
+    ensures { λ r. ⌜ checked r ≡ refusalOf (numberListed number) ⌝ }
+{
+    match number {
+        Number::Bits(_) => Check::Passes,
+        Number::Refused(refusal) => Check::Refused(refusal),
+    }
+}
+
 // How many bytes there are from a place on.
-pub(crate) fn left(bytes: &[u8], at: usize) -> usize
+pub fn left(bytes: &[u8], at: usize) -> usize
     ensures { λ r. ⌜ r ≡ length (now (bytes .entry)) - at ⌝ }
 {
     if at < bytes.len() {
@@ -29,7 +43,7 @@ pub(crate) fn left(bytes: &[u8], at: usize) -> usize
 }
 
 // An IEEE number: binary32 for 4 bytes, binary64 for 8.
-pub(crate) fn ieee_at(bytes: &[u8], at: usize, size: usize) -> Number
+fn ieee_at(bytes: &[u8], at: usize, size: usize) -> Number
     ensures { λ r. ⌜ numberListed r ≡ ieeeNumber (now (bytes .entry)) at size ⌝ }
 {
     if left(bytes, at) < size {
@@ -50,7 +64,7 @@ pub(crate) fn ieee_at(bytes: &[u8], at: usize, size: usize) -> Number
 }
 
 // Rule h) of one deviation.
-pub(crate) fn deviation_at(bytes: &[u8], at: usize, control: ParseControl) -> Number
+pub fn deviation_at(bytes: &[u8], at: usize, control: ParseControl) -> Number
     ensures { λ r. ⌜ numberListed r ≡ deviationNumber (now (bytes .entry)) at control ⌝ }
 {
     let slen = control.slen as usize;
@@ -67,7 +81,7 @@ pub(crate) fn deviation_at(bytes: &[u8], at: usize, control: ParseControl) -> Nu
     ieee_at(bytes, at, slen)
 }
 
-// What a code reads as: a value, or 0.0 for everything else.
+// The bits of a value, and 0.0 for everything else.
 fn value_bits(decoded: DecodedImapb) -> u64
     ensures { λ r. ⌜ r ≡ valueBits decoded ⌝ }
 {
@@ -82,18 +96,18 @@ fn value_bits(decoded: DecodedImapb) -> u64
     }
 }
 
-// The refusal that an answer holds.
-fn refused_code(read: ImapbRead) -> Number
-    ensures { λ r. ⌜ r ≡ refusedCode read ⌝ }
+// What a code's answer is as a number's.
+fn number_of(read: ImapbRead) -> Number
+    ensures { λ r. ⌜ numberListed r ≡ codeNumber (imapbListed read) ⌝ }
 {
     match read {
-        ImapbRead::Done(_) => Number::Bits(0),
+        ImapbRead::Done(decoded) => Number::Bits(value_bits(decoded)),
         ImapbRead::Refused(refusal) => Number::Refused(refusal),
     }
 }
 
 // Rule j) of one present slot.
-pub(crate) fn correlation_at(bytes: &[u8], at: usize, control: ParseControl) -> Number
+pub fn correlation_at(bytes: &[u8], at: usize, control: ParseControl) -> Number
     ensures { λ r. ⌜ numberListed r ≡ correlationNumber (now (bytes .entry)) at control ⌝ }
 {
     let clen = control.clen as usize;
@@ -108,15 +122,11 @@ pub(crate) fn correlation_at(bytes: &[u8], at: usize, control: ParseControl) -> 
         return Number::Refused(Refusal::UnsupportedImapbLength { length: clen });
     }
     let end = at + clen;
-    let read = decode_imapb(clen, &bytes[at..end]);
-    let ImapbRead::Done(decoded) = read else {
-        return refused_code(read);
-    };
-    Number::Bits(value_bits(decoded))
+    number_of(decode_imapb(clen, &bytes[at..end]))
 }
 
 // A slot's number: 0.0 where it is absent.
-pub(crate) fn slot_at(bytes: &[u8], at: usize, control: ParseControl, present: u8) -> Number
+pub fn slot_at(bytes: &[u8], at: usize, control: ParseControl, present: u8) -> Number
     ensures { λ r. ⌜ numberListed r ≡ slotNumber (now (bytes .entry)) at control present ⌝ }
 {
     if present == 0 {

@@ -1,13 +1,18 @@
 //! Element 3, the Bit Vector: which slots are present.
+use crate::head::Head;
 use layout::control::ParseControl;
+use layout::pack::bounded_slots;
+use layout::triangle::corr_slots;
 ghost use mathlib.Core.Path.{_≡_};
-ghost use Prim.Native.Nat.{_+_, _-_, _/_, _≤_, _<_, _^_};
+ghost use Prim.Native.Nat.{min, _+_, _-_, _/_, _≤_, _^_};
 ghost use lib.Count.{ones as onesOf};
 ghost use lib.ListN.{getD};
-ghost use Rattle.reader.specs.Elements.{onesBefore, presentBefore, presenceIn};
+ghost use Rattle.layout.specs.Size.{maxSlots};
+ghost use Rattle.layout.specs.Triangle.{slotsOf};
+ghost use Rattle.elements.specs.Elements.{onesBefore, presentBefore, presenceIn};
 
 // The byte so far behind a place, and 0 past the end.
-pub(crate) fn byte_at(bytes: &[u8], at: usize, i: usize) -> u8
+fn byte_at(bytes: &[u8], at: usize, i: usize) -> u8
     ensures { λ r. ⌜ r ≡ getD (now (bytes .entry)) (at + i) 0 ⌝ }
 {
     if at < bytes.len() {
@@ -19,7 +24,7 @@ pub(crate) fn byte_at(bytes: &[u8], at: usize, i: usize) -> u8
 }
 
 // 1 where slot k is present, and 0 where it is absent.
-pub(crate) fn presence_of(bytes: &[u8], at: usize, control: ParseControl, k: usize) -> u8
+pub fn presence_of(bytes: &[u8], at: usize, control: ParseControl, k: usize) -> u8
     ensures { λ r. ⌜ r ≡ presenceIn (now (bytes .entry)) at control k ⌝ }
 {
     if control.clen == 0 {
@@ -43,7 +48,7 @@ fn set_bits(byte: u8, n: usize) -> usize
 
 // How many of the first `slots` bits of a vector are set: its padding is cut off the last byte.
 fn ones(bytes: &[u8], at: usize, slots: usize) -> usize
-    requires { ⌜ slots < 2 ^ 32 ⌝ }
+    requires { ⌜ slots ≤ maxSlots ⌝ }
     ensures { λ r. ⌜ r ≡ onesBefore (now (bytes .entry)) at slots ⌝ }
 {
     let whole = slots / 8;
@@ -57,15 +62,17 @@ fn ones(bytes: &[u8], at: usize, slots: usize) -> usize
 }
 
 // How many of the slots are present.
-pub(crate) fn present_count(bytes: &[u8], at: usize, control: ParseControl, slots: usize) -> usize
-    requires { ⌜ slots < 2 ^ 32 ⌝ }
-    ensures { λ r. ⌜ r ≡ presentBefore (now (bytes .entry)) at control slots ⌝ }
+pub fn present_count(bytes: &[u8], head: Head) -> usize
+    ensures { λ r. ⌜ r
+        ≡ presentBefore (now (bytes .entry)) (head .body) (head .control) (min (slotsOf (head .n)) maxSlots) ⌝ }
 {
+    let control = head.control;
     if control.clen == 0 {
         return 0;
     }
+    let slots = bounded_slots(corr_slots(head.n));
     if control.cs {
-        ones(bytes, at, slots)
+        ones(bytes, head.body, slots)
     } else {
         slots
     }

@@ -19,7 +19,7 @@ use Rattle.imapb.specs.declared.decode.DecodedImapb.{DecodedImapb}
 use Rattle.imapb.specs.declared.mapping.Mapping.{Mapping}
 use Rattle.imapb.specs.Mapping.{scaleOf, topOf}
 use Rattle.imapb.specs.Special.{specialReading, reading}
-use Rattle.reader.specs.Elements.{part, valueBits}
+use Rattle.elements.specs.Elements.{part, valueBits}
 use Rattle.reader.specs.Fill.{Maps}
 
 -- ---- what a mapping says of its length

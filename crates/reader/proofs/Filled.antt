@@ -1,4 +1,4 @@
--- The loops that fill lent memory: what a turn reads is there, so that no number is refused, and what the turns store.
+-- The loops that fill lent memory: what a turn reads is there, so that no number is refused.
 -- Assumes nothing.
 use mathlib.Core.Path.{_≡_, refl, sym, ap, _∙_}
 use mathlib.Core.Bool.{Bool, true, false}
@@ -8,44 +8,17 @@ use native.Mathlib.Nat.{add-zero, zero-mul, suc-mul, add-mul, mul-comm, mul-le-m
 use native.Mathlib.Numerals.{add-one}
 use native.Mathlib.Omega.{arith}
 use borrow.Author.Tests.{le-ltb}
-use lib.ListN.{length, set}
-use lib.Seq.{sets}
+use lib.ListN.{length}
 use Rattle.answers.specs.declared.Refusal.{Refusal}
-use Rattle.answers.specs.Lent.{over, tab}
 use Rattle.answers.specs.Table.{Answer, pick, passes}
-use Rattle.answers.proofs.Lent.{length-tab, getD-tab, Front, front-none, front-more, front-done}
-use Rattle.answers.proofs.Stored.{sets-more}
 use Rattle.layout.specs.declared.control.ParseControl.{ParseControl}
-use Rattle.reader.specs.declared.number.Number.{Number}
-use Rattle.reader.specs.declared.number.Number.the-variants.{Bits, Refused}
-use Rattle.reader.specs.Elements.{part, codeBits, presentIn, presentBefore, deviationIn, correlationIn, presenceIn}
-use Rattle.reader.specs.Fill.{SlotsHeld}
-use Rattle.reader.specs.Numbers.{Read, bits, numberListed, element, deviationNumber, slotNumber}
-use Rattle.reader.specs.Rules.{deviationFormat}
-use Rattle.reader.proofs.Vector.{present-more, present-le, present-grows}
-
--- ---- a loop that stores what f gives of 0 to n-1
-module _ (n : ℕ) (f : ℕ → ℕ) {l₀ : List ℕ} where
-  pub tab-none : n ≤ length l₀ → Front (tab n f) l₀ 0 l₀
-  tab-none h = front-none (rw (length-tab n f) h)
-
-  module _ {i : ℕ} {l : List ℕ} (p : Front (tab n f) l₀ i l) where
-    pub tab-room : i < n → i < length l
-    tab-room h = omega (arith, p .room, p .long, length-tab n f)
-
-    pub tab-more : {x : ℕ} → i < n → x ≡ f i → Front (tab n f) l₀ (i + 1) (set l i x)
-    tab-more h e = front-more p (rw (length-tab n f) h) (e ∙ sym (getD-tab n f i h))
-
-    pub tab-done : n ≤ i → l ≡ over (tab n f) l₀
-    tab-done h = front-done p (omega (arith, p .within, length-tab n f))
-
-  -- a run of m entries more
-  pub tab-run : {i : ℕ} {l : List ℕ} → Front (tab n f) l₀ i l → (m : ℕ) {g : ℕ → ℕ} → i + m ≤ n → ((j : ℕ) → j < m → g j ≡ f (i + j))
-      → Front (tab n f) l₀ (i + m) (sets l i (tab m g))
-  tab-run p zero h e = rw add-zero p
-  tab-run {i} {l} p (suc m) {g} h e =
-      let q : i + suc m ≡ i + m + 1 = omega arith in
-      rw (q, sets-more, length-tab m g) (tab-more (tab-run p m (omega arith) (λ j k. e j (omega arith))) (omega arith) (e m (omega arith)))
+use Rattle.elements.specs.declared.number.Number.{Number}
+use Rattle.elements.specs.declared.number.Number.the-variants.{Bits, Refused}
+use Rattle.elements.specs.Elements.{part, codeBits, presentIn, presentBefore, deviationIn, correlationIn, presenceIn}
+use Rattle.elements.specs.Held.{SlotsHeld}
+use Rattle.elements.specs.Numbers.{Read, bits, numberListed, element, deviationNumber, slotNumber}
+use Rattle.elements.specs.Formats.{deviationFormat}
+use Rattle.elements.proofs.Vector.{present-more, present-le, present-grows}
 
 -- ---- what a turn has: the number that it reads, and where it moves on to
 pub record Turn (bytes : List ℕ) (number : Read) (value moved next : ℕ) : Type 0 where

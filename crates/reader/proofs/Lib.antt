@@ -1,10 +1,6 @@
 pub mod CodesRead
-pub mod Decided
 pub mod Filled
-pub mod Held
-pub mod InTurn
 pub mod Marked
 pub mod OneAnswer
 pub mod Peeked
-pub mod Vector
 pub mod Whole

@@ -22,10 +22,12 @@ use Rattle.imapb.specs.Special.{reading}
 use Rattle.imapb.specs.Tables.{mappingOf, imapbMapping}
 use Rattle.layout.specs.declared.control.ParseControl.{ParseControl}
 use Rattle.layout.specs.Control.{isSet}
-use Rattle.reader.specs.Elements.{part, valueBits, vectorBit, onesBefore, correlationIn, presenceIn}
-use Rattle.reader.specs.Fill.{SlotsHeld, Maps, Codes, mappedIn, markIn, markedIn}
-use Rattle.reader.proofs.Filled.{ends, tab-none, tab-run, tab-done}
-use Rattle.reader.proofs.Vector.{ones-grow}
+use Rattle.elements.specs.Elements.{part, valueBits, vectorBit, onesBefore, correlationIn, presenceIn}
+use Rattle.elements.specs.Held.{SlotsHeld}
+use Rattle.reader.specs.Fill.{Maps, Codes, mappedIn, markIn, markedIn}
+use Rattle.reader.proofs.Filled.{ends}
+use Rattle.answers.proofs.Tab.{tab-none, tab-run, tab-done}
+use Rattle.elements.proofs.Vector.{ones-grow}
 
 -- ---- codes one behind the other: code k of those that are there, and where the next one starts
 pub code-there : {bytes : List ℕ} {codes n : ℕ} {m : Mapping} → Codes bytes codes m n → {k at : ℕ} → k < n → at ≡ codes + k * m .length

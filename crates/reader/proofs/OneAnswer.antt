@@ -11,7 +11,7 @@ use Rattle.answers.proofs.OneToOne.{listed-one, done-not-refused}
 use Rattle.layout.specs.declared.pack.SdccFlp.{SdccFlp}
 use Rattle.reader.specs.declared.read.ReadAnswer.{ReadAnswer}
 use Rattle.reader.specs.declared.read.ReadAnswer.the-variants.{Done, Refused}
-use Rattle.reader.specs.Elements.{headOf, deviations, correlations, presence}
+use Rattle.elements.specs.Elements.{headOf, deviations, correlations, presence}
 use Rattle.reader.specs.Listed.{packAnswer, readListed}
 use Rattle.reader.proofs.read.decode_sdcc_flp.Reads as decode-sdcc-flp
 

@@ -1,90 +1,72 @@
--- The reader's whole order: what its head tells, and what each refusal leaves.
+-- The reader's whole order: what each refusal comes to, and what is left in lent memory.
 -- Assumes nothing.
 use mathlib.Core.Path.{_≡_, refl, sym, ap, _∙_}
-use mathlib.Core.Bool.{Bool, true, false}
-use mathlib.Core.List.{List, []}
-use Prim.Native.Nat.{ℕ, _+_, _-_, _/_, _≤_}
-use native.Mathlib.Omega.{arith}
-use lib.Dec.{eqb, ltb}
+use mathlib.Core.List.{List}
+use Prim.Native.Nat.{ℕ}
 use lib.ListN.{length}
 use Rattle.answers.specs.Lent.{over, leaves}
-use Rattle.answers.specs.Listed.{checked}
-use Rattle.answers.specs.Table.{Answer, answer, pick, passes, next}
-use Rattle.answers.specs.declared.Check.{Check}
-use Rattle.answers.specs.declared.Check.the-variants.{Passes, Refused}
+use Rattle.answers.specs.Listed.{listed}
+use Rattle.answers.specs.Table.{Answer, passes, next}
 use Rattle.answers.specs.declared.Refusal.{Refusal}
+use Rattle.answers.proofs.Next.{next-next, next-passed, next-zero}
 use Rattle.answers.proofs.OneToOne.{refused-not-done}
-use Rattle.answers.proofs.Rules.{picked}
-use Rattle.numbers.specs.BerOid.{oidRead}
-use Rattle.layout.specs.declared.control.ParseControl.{ParseControl}
-use Rattle.layout.specs.declared.header.Header.the-variants.{Open, Short}
-use Rattle.layout.specs.Listed.{headerOf}
-use Rattle.layout.specs.Size.{bodyAt, headRules, sizeRules, fitRules}
-use Rattle.layout.specs.Triangle.{slotsOf}
-use Rattle.layout.proofs.Fits.{fits-tells}
-use Rattle.layout.proofs.Peek.{opened, body-within, short-is}
-use Rattle.reader.specs.declared.head.Head.{Head}
+use Rattle.layout.specs.Size.{fitRules}
+use Rattle.elements.specs.declared.head.Head.{Head}
+use Rattle.elements.specs.declared.head.Places.{Places}
+use Rattle.elements.specs.Elements.{headOf, placesOf, deviations, correlations, presence}
+use Rattle.elements.specs.Held.{Placed}
+use Rattle.elements.specs.Listed.{opens, refused, verdict}
+use Rattle.elements.proofs.Opened.{verdict-tells, verdict-stops, fit-within}
+use Rattle.rules.specs.Rules.{elementRules, packRules, roomRules}
 use Rattle.reader.specs.declared.read.ReadAnswer.{ReadAnswer}
-use Rattle.reader.specs.Elements.{headOf, deviations, correlations, presence}
-use Rattle.reader.specs.Fill.{Within}
-use Rattle.reader.specs.Listed.{readListed, readRefused}
-use Rattle.reader.specs.Rules.{elementRules, roomRules, done, readAnswer}
-use Rattle.answers.proofs.Next.{stops}
+use Rattle.reader.specs.declared.read.ReadAnswer.the-variants.{Refused}
+use Rattle.reader.specs.Listed.{readListed}
+use Rattle.reader.specs.Rules.{done, readAnswer}
 
--- ---- a header that was not read: 1
-head-refused : (t u : Bool) → eqb (next (pick t passes (answer 1 [])) (pick u (answer 1 []) passes) .number) 0 ≡ false
-    → next (pick t passes (answer 1 [])) (pick u (answer 1 []) passes) ≡ answer 1 []
-head-refused true true e = refl
-head-refused true false e = let z : _≡_ {A = ℕ} 0 1 = cc in absurd (omega arith)
-head-refused false u e = refl
-
-pub short-answer : (bytes : List ℕ) (ds cs ps : ℕ) → Short ≡ headerOf bytes → answer 1 [] ≡ readAnswer bytes ds cs ps
-short-answer bytes ds cs ps e = let h : headRules bytes ≡ answer 1 [] = head-refused (eqb (oidRead bytes .number) 0) (ltb (length bytes) (bodyAt bytes)) (short-is bytes e) in rw h
-
--- ---- a header that was read
-module _ (bytes : List ℕ) {n : ℕ} {k : ParseControl} {b : ℕ} (o : Open n k b ≡ headerOf bytes) where
-  abbrev pub head : Head
-  head = record { n = n; control = k; body = b }
-
-  pub head-is : head ≡ headOf bytes
-  head-is = let p = opened bytes o in λ i. record { n = p .size i; control = p .control i; body = p .body i }
-
-  pub within : sizeRules n (length bytes - b) k .number ≡ 0 → Within bytes head
-  within z =
-      let f = fits-tells n (length bytes - b) k .done z in
-      let w = body-within bytes o in
-      record {
-        rows = f .rows;
-        vector =
-            picked (λ (m : ℕ). b + m ≤ length bytes) (k .cs) ((slotsOf n + 7) / 8) 0
-            (λ t. omega (arith, f .bits t, w)) (λ _. omega (arith, w));
-      }
-
--- ---- the order: the first check that refuses gives the answer
-pub passed : {k : Check} {a : Answer} → checked k ≡ a → k ≡ Passes → a ≡ passes
-passed e h = sym e ∙ ap checked h
-
+-- ---- the order: the first that refuses gives the answer
 module _ (bytes : List ℕ) (ds cs ps : ℕ) where
   abbrev rooms : Answer
   rooms = next (roomRules (headOf bytes) ds cs ps) (done (headOf bytes))
 
-  abbrev elements : Answer
-  elements = next (elementRules bytes (headOf bytes)) rooms
+  -- rules a) to k), and what follows them
+  by-pack : readAnswer bytes ds cs ps ≡ next (packRules bytes) rooms
+  by-pack = sym (next-next (fitRules bytes) (elementRules bytes (headOf bytes)) rooms)
 
-  module _ {k : Check} {r : Refusal} (h : k ≡ Refused r) where
-    pub fit-stops : checked k ≡ fitRules bytes → checked k ≡ readAnswer bytes ds cs ps
-    fit-stops e = stops (fitRules bytes) elements e h
+  -- a pack that is refused
+  pub pack-stops : (r : Refusal) → refused (listed r) ≡ verdict bytes (packRules bytes) → listed r ≡ readAnswer bytes ds cs ps
+  pack-stops r e =
+      let v = verdict-stops bytes {a = packRules bytes} e in
+      v .1 ∙ sym (rw (v .0) at by-pack)
 
-    pub element-stops : fitRules bytes ≡ passes → checked k ≡ elementRules bytes (headOf bytes) → checked k ≡ readAnswer bytes ds cs ps
-    element-stops f e = rw f (stops (elementRules bytes (headOf bytes)) rooms e h)
+  -- a pack whose rules a) to k) pass
+  module _ {p : Places} (o : opens p ≡ verdict bytes (packRules bytes)) where
+    told : (packRules bytes .number ≡ 0) × (p ≡ placesOf (headOf bytes))
+    told = verdict-tells bytes (packRules bytes) o
 
-    pub room-stops : fitRules bytes ≡ passes → elementRules bytes (headOf bytes) ≡ passes → checked k ≡ roomRules (headOf bytes) ds cs ps
-        → checked k ≡ readAnswer bytes ds cs ps
-    room-stops f g e = rw (f, g) (stops (roomRules (headOf bytes) ds cs ps) (done (headOf bytes)) e h)
+    pub head-is : p .head ≡ headOf bytes
+    head-is = ap (λ (x : Places). x .head) (told .1)
 
-  pub all-pass : fitRules bytes ≡ passes → elementRules bytes (headOf bytes) ≡ passes → roomRules (headOf bytes) ds cs ps ≡ passes
-      → done (headOf bytes) ≡ readAnswer bytes ds cs ps
-  all-pass f g e = rw (f, g, e)
+    left : readAnswer bytes ds cs ps ≡ rooms
+    left = by-pack ∙ next-passed (packRules bytes) rooms (told .0)
+
+    parts : (fitRules bytes .number ≡ 0) × (elementRules bytes (headOf bytes) .number ≡ 0)
+    parts = next-zero (fitRules bytes) (elementRules bytes (headOf bytes)) (told .0)
+
+    pub placed : Placed bytes p
+    placed = rw (told .1) (record { within = fit-within bytes (parts .0); is = refl })
+
+    pub elements-pass : elementRules bytes (p .head) .number ≡ 0
+    elements-pass = rw head-is (parts .1)
+
+    module _ (e : Answer) (f : roomRules (p .head) ds cs ps ≡ e) where
+      from-rooms : readAnswer bytes ds cs ps ≡ next e (done (headOf bytes))
+      from-rooms = left ∙ ap (λ (x : Answer). next x (done (headOf bytes))) (rw head-is at f)
+
+    pub room-stops : (r : Refusal) → listed r ≡ roomRules (p .head) ds cs ps → listed r ≡ readAnswer bytes ds cs ps
+    room-stops r e = sym (rw (refused-not-done r) at (from-rooms (listed r) (sym e)))
+
+    pub all-pass : roomRules (p .head) ds cs ps ≡ passes → done (headOf bytes) ≡ readAnswer bytes ds cs ps
+    all-pass e = sym (from-rooms passes e)
 
 -- ---- what the reader's contract says of lent memory
 module _ (x : ReadAnswer) (bytes ds cs ps : List ℕ) where
@@ -95,10 +77,9 @@ module _ (x : ReadAnswer) (bytes ds cs ps : List ℕ) where
       × (cs′ ≡ leaves (readListed x) (correlations bytes (headOf bytes)) cs)
       × (ps′ ≡ leaves (readListed x) (presence bytes (headOf bytes)) ps)
 
-  -- a check that refuses, as the reader gives it: its own answer, and all as it was
-  pub kept : {k : Check} {r : Refusal} → x ≡ readRefused k → k ≡ Refused r → checked k ≡ readAnswer bytes (length ds) (length cs) (length ps)
-      → Meets ds cs ps
-  kept {r = r} e h a = rw (e, h) (rw h at a, rw (refused-not-done r), rw (refused-not-done r), rw (refused-not-done r))
+  -- a refusal: all as it was
+  pub kept : (r : Refusal) → x ≡ Refused r → listed r ≡ readAnswer bytes (length ds) (length cs) (length ps) → Meets ds cs ps
+  kept r e a = rw e (a, rw (refused-not-done r), rw (refused-not-done r), rw (refused-not-done r))
 
   -- and done: the numbers, over what was there
   pub stored : {h : Head} → h ≡ headOf bytes → {ds′ cs′ ps′ : List ℕ} → done (headOf bytes) ≡ readAnswer bytes (length ds) (length cs) (length ps)

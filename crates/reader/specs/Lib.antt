@@ -1,5 +1,4 @@
-pub mod Elements
 pub mod Rules
-pub mod Numbers
 pub mod Listed
+pub mod Read
 pub mod Fill

@@ -1,8 +1,8 @@
 //! The deviations, in the one pass that decodes and stores them. Everything that can be refused has been by now.
-use crate::number::Number;
-use crate::number::deviation_at;
-use crate::turns::refused_number;
 use answers::Check;
+use elements::number::Number;
+use elements::number::check_number;
+use elements::number::deviation_at;
 use layout::control::ParseControl;
 ghost use mathlib.Core.Path.{_≡_};
 ghost use Prim.Native.Nat.{_+_, _*_, _≤_, _<_};
@@ -10,8 +10,8 @@ ghost use lib.ListN.{length};
 ghost use Rattle.answers.specs.Lent.{over, tab};
 ghost use Rattle.answers.specs.Table.{passes};
 ghost use Rattle.answers.specs.Listed.{checked};
-ghost use Rattle.reader.specs.Elements.{deviationIn};
-ghost use Rattle.reader.specs.Rules.{deviationFormat};
+ghost use Rattle.elements.specs.Elements.{deviationIn};
+ghost use Rattle.elements.specs.Formats.{deviationFormat};
 
 // Element 4.
 pub(crate) fn fill_deviations(
@@ -21,8 +21,10 @@ pub(crate) fn fill_deviations(
     count: usize,
     out: &mut [u64],
 ) -> Check
-    requires { ⌜ (at + count * control .slen ≤ length (now bytes)) × (0 < count → deviationFormat control ≡ passes) × (count ≤ length (now out)) ⌝ }
-    ensures { λ r. ⌜ (checked r ≡ passes) × (now (out .exit) ≡ over (tab count (deviationIn (now (bytes .entry)) at control)) (now (out .entry))) ⌝ }
+    requires { ⌜ (at + count * control .slen ≤ length (now bytes)) × (0 < count → deviationFormat control ≡ passes)
+        × (count ≤ length (now out)) ⌝ }
+    ensures { λ r. ⌜ (checked r ≡ passes)
+        × (now (out .exit) ≡ over (tab count (deviationIn (now (bytes .entry)) at control)) (now (out .entry))) ⌝ }
 {
     let size = control.slen as usize;
     let mut next = at;
@@ -30,7 +32,7 @@ pub(crate) fn fill_deviations(
     while i < count {
         let number = deviation_at(bytes, next, control);
         let Number::Bits(x) = number else {
-            return refused_number(number);
+            return check_number(number);
         };
         out[i] = x;
         next += size;

@@ -9,7 +9,7 @@ ghost use lib.Ieee.{binary64, ofInt};
 ghost use lib.ListN.{length as lengthOf};
 ghost use Rattle.numbers.specs.Words.{wordOf};
 ghost use Rattle.imapb.specs.Special.{reading};
-ghost use Rattle.reader.specs.Elements.{part, valueBits};
+ghost use Rattle.elements.specs.Elements.{part, valueBits};
 ghost use Rattle.reader.specs.Fill.{Maps};
 
 // The code that starts at a place: the last bytes of a word that ends with it.
@@ -47,7 +47,8 @@ fn value_of(mapping: Mapping, y: u64) -> u64
 // The bits of the number whose code starts at a place.
 pub(crate) fn mapped_at(bytes: &[u8], at: usize, mapping: Mapping) -> u64
     requires { ⌜ Maps mapping × (8 ≤ at) × (at + mapping .length ≤ lengthOf (now bytes)) ⌝ }
-    ensures { λ r. ⌜ r ≡ valueBits (reading (mapping .length) (wordOf (part (now (bytes .entry)) at (mapping .length)))) ⌝ }
+    ensures { λ r. ⌜ r
+        ≡ valueBits (reading (mapping .length) (wordOf (part (now (bytes .entry)) at (mapping .length)))) ⌝ }
 {
     value_of(mapping, code_at(bytes, at, mapping))
 }

@@ -1,59 +1,51 @@
 //! `decode_sdcc_flp`: rules a) to l) in their order, and then one pass that stores.
-use crate::decide::check_rooms;
-use crate::decide::decide;
 use crate::fill::fill_deviations;
-use crate::head::Head;
-use crate::head::pack_of;
-use crate::head::places_of;
 use crate::slots::fill_slots;
 use answers::Check;
 use answers::Refusal;
-use layout::header::Header;
-use layout::header::read_header;
+use elements::head::Opened;
+use elements::head::Places;
+use elements::head::pack_of;
 use layout::pack::SdccFlp;
-use layout::size::check_matrix_size_fits;
+use rules::decide::decide;
+use rules::rooms::check_rooms;
 ghost use mathlib.Core.Path.{_≡_};
 ghost use lib.ListN.{length};
 ghost use Rattle.answers.specs.Table.{passes};
-ghost use Rattle.answers.specs.Lent.{over, leaves};
-ghost use Rattle.reader.specs.Elements.{headOf, deviations as deviationsOf, correlations as correlationsOf, presence as presenceOf};
-ghost use Rattle.reader.specs.Fill.{Within};
-ghost use Rattle.reader.specs.Listed.{readListed, readRefused};
-ghost use Rattle.reader.specs.Rules.{elementRules, roomRules, done, readAnswer};
+ghost use Rattle.answers.specs.Lent.{over};
+ghost use Rattle.elements.specs.Elements.{deviations as deviationsOf, correlations as correlationsOf};
+ghost use Rattle.elements.specs.Elements.{presence as presenceOf};
+ghost use Rattle.elements.specs.Held.{Placed};
+ghost use Rattle.rules.specs.Rules.{elementRules, roomRules};
+ghost use Rattle.reader.specs.Listed.{readListed};
+ghost use Rattle.reader.specs.Rules.{done, readAnswer};
+ghost use Rattle.reader.specs.Read.{leftDeviations, leftCorrelations, leftPresence};
 
 pub enum ReadAnswer {
     Done(SdccFlp),
     Refused(Refusal),
 }
 
-// The refusal that a check holds.
-fn refused_read(check: Check) -> ReadAnswer
-    ensures { λ r. ⌜ r ≡ readRefused check ⌝ }
-{
-    match check {
-        Check::Passes => ReadAnswer::Refused(Refusal::TruncatedField),
-        Check::Refused(refusal) => ReadAnswer::Refused(refusal),
-    }
-}
-
 // The numbers of a pack that nothing refuses.
 fn fill(
     bytes: &[u8],
-    head: Head,
+    places: Places,
     deviations: &mut [u64],
     correlations: &mut [u64],
     presence: &mut [u8],
 ) -> ReadAnswer
-    requires { ⌜ Within (now bytes) head × (elementRules (now bytes) head ≡ passes)
-        × (roomRules head (length (now deviations)) (length (now correlations)) (length (now presence)) ≡ passes) ⌝ }
-    ensures { λ r. ⌜ (readListed r ≡ done head)
-        × (now (deviations .exit) ≡ over (deviationsOf (now (bytes .entry)) head) (now (deviations .entry)))
-        × (now (correlations .exit) ≡ over (correlationsOf (now (bytes .entry)) head) (now (correlations .entry)))
-        × (now (presence .exit) ≡ over (presenceOf (now (bytes .entry)) head) (now (presence .entry))) ⌝ }
+    requires { ⌜ Placed (now bytes) places × (elementRules (now bytes) (places .head) .number ≡ 0)
+        × (roomRules (places .head) (length (now deviations)) (length (now correlations)) (length (now presence))
+        ≡ passes) ⌝ }
+    ensures { λ r. ⌜ (readListed r ≡ done (places .head))
+        × (now (deviations .exit) ≡ over (deviationsOf (now (bytes .entry)) (places .head)) (now (deviations .entry)))
+        × (now (correlations .exit)
+        ≡ over (correlationsOf (now (bytes .entry)) (places .head)) (now (correlations .entry)))
+        × (now (presence .exit) ≡ over (presenceOf (now (bytes .entry)) (places .head)) (now (presence .entry))) ⌝ }
 {
+    let head = places.head;
     let control = head.control;
     let pack = pack_of(head);
-    let places = places_of(bytes, head);
     let first = fill_deviations(
         bytes,
         places.deviations,
@@ -61,9 +53,9 @@ fn fill(
         pack.deviations,
         deviations,
     );
-    let Check::Passes = first else {
-        return refused_read(first);
-    };
+    if let Check::Refused(refusal) = first {
+        return ReadAnswer::Refused(refusal);
+    }
     let second = fill_slots(
         bytes,
         head.body,
@@ -73,9 +65,9 @@ fn fill(
         correlations,
         presence,
     );
-    let Check::Passes = second else {
-        return refused_read(second);
-    };
+    if let Check::Refused(refusal) = second {
+        return ReadAnswer::Refused(refusal);
+    }
     ReadAnswer::Done(pack)
 }
 
@@ -86,27 +78,22 @@ pub fn decode_sdcc_flp(
     correlations: &mut [u64],
     presence: &mut [u8],
 ) -> ReadAnswer
-    ensures { λ r. ⌜ (readListed r ≡ readAnswer (now (bytes .entry)) (length (now (deviations .entry))) (length (now (correlations .entry))) (length (now (presence .entry))))
-        × (now (deviations .exit) ≡ leaves (readListed r) (deviationsOf (now (bytes .entry)) (headOf (now (bytes .entry)))) (now (deviations .entry)))
-        × (now (correlations .exit) ≡ leaves (readListed r) (correlationsOf (now (bytes .entry)) (headOf (now (bytes .entry)))) (now (correlations .entry)))
-        × (now (presence .exit) ≡ leaves (readListed r) (presenceOf (now (bytes .entry)) (headOf (now (bytes .entry)))) (now (presence .entry))) ⌝ }
+    ensures { λ r. ⌜ (readListed r
+        ≡ readAnswer (now (bytes .entry)) (length (now (deviations .entry))) (length (now (correlations .entry)))
+        (length (now (presence .entry))))
+        × (now (deviations .exit) ≡ leftDeviations (readListed r) (now (bytes .entry)) (now (deviations .entry)))
+        × (now (correlations .exit) ≡ leftCorrelations (readListed r) (now (bytes .entry)) (now (correlations .entry)))
+        × (now (presence .exit) ≡ leftPresence (readListed r) (now (bytes .entry)) (now (presence .entry))) ⌝ }
 {
-    let header = read_header(bytes);
-    let Header::Open { n, control, body } = header else {
-        return ReadAnswer::Refused(Refusal::TruncatedField);
+    let decided = decide(bytes);
+    let places = match decided {
+        Opened::Pack(places) => places,
+        Opened::Refused(refusal) => return ReadAnswer::Refused(refusal),
     };
-    let fits = check_matrix_size_fits(n, bytes.len() - body, control);
-    let Check::Passes = fits else {
-        return refused_read(fits);
-    };
-    let head = Head { n, control, body };
-    let decided = decide(bytes, head);
-    let Check::Passes = decided else {
-        return refused_read(decided);
-    };
+    let head = places.head;
     let rooms = check_rooms(head, deviations.len(), correlations.len(), presence.len());
-    let Check::Passes = rooms else {
-        return refused_read(rooms);
-    };
-    fill(bytes, head, deviations, correlations, presence)
+    if let Check::Refused(refusal) = rooms {
+        return ReadAnswer::Refused(refusal);
+    }
+    fill(bytes, places, deviations, correlations, presence)
 }

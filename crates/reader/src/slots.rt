@@ -1,10 +1,10 @@
 //! The slots, in the one pass that decodes and stores them. Everything that can be refused has been by now.
 use crate::mapped::mapped_at;
-use crate::number::Number;
-use crate::number::slot_at;
-use crate::present::presence_of;
-use crate::turns::refused_number;
 use answers::Check;
+use elements::number::Number;
+use elements::number::check_number;
+use elements::number::slot_at;
+use elements::present::presence_of;
 use imapb::mapping::ImapbMapping;
 use imapb::mapping::Mapping;
 use imapb::mapping::imapb_mapping;
@@ -18,8 +18,9 @@ ghost use lib.Seq.{sets};
 ghost use Rattle.answers.specs.Lent.{over, tab};
 ghost use Rattle.answers.specs.Table.{passes};
 ghost use Rattle.answers.specs.Listed.{checked};
-ghost use Rattle.reader.specs.Elements.{onesBefore, correlationIn, presenceIn};
-ghost use Rattle.reader.specs.Fill.{SlotsHeld, mappedIn, markIn, markedIn, Codes};
+ghost use Rattle.elements.specs.Elements.{onesBefore, correlationIn, presenceIn};
+ghost use Rattle.elements.specs.Held.{SlotsHeld};
+ghost use Rattle.reader.specs.Fill.{mappedIn, markIn, markedIn, Codes};
 
 // The plain form: slot by slot, in every format.
 fn fill_plain(
@@ -31,10 +32,13 @@ fn fill_plain(
     correlations: &mut [u64],
     presence: &mut [u8],
 ) -> Check
-    requires { ⌜ SlotsHeld (now bytes) vector codes control slots × (slots ≤ length (now correlations)) × (slots ≤ length (now presence)) ⌝ }
+    requires { ⌜ SlotsHeld (now bytes) vector codes control slots × (slots ≤ length (now correlations))
+        × (slots ≤ length (now presence)) ⌝ }
     ensures { λ r. ⌜ (checked r ≡ passes)
-        × (now (correlations .exit) ≡ over (tab slots (correlationIn (now (bytes .entry)) vector codes control)) (now (correlations .entry)))
-        × (now (presence .exit) ≡ over (tab slots (presenceIn (now (bytes .entry)) vector control)) (now (presence .entry))) ⌝ }
+        × (now (correlations .exit)
+        ≡ over (tab slots (correlationIn (now (bytes .entry)) vector codes control)) (now (correlations .entry)))
+        × (now (presence .exit)
+        ≡ over (tab slots (presenceIn (now (bytes .entry)) vector control)) (now (presence .entry))) ⌝ }
 {
     let size = control.clen as usize;
     let mut next = codes;
@@ -43,7 +47,7 @@ fn fill_plain(
         let present = presence_of(bytes, vector, control, k);
         let number = slot_at(bytes, next, control, present);
         let Number::Bits(x) = number else {
-            return refused_number(number);
+            return check_number(number);
         };
         correlations[k] = x;
         presence[k] = present;
@@ -62,8 +66,10 @@ fn fill_all(
     correlations: &mut [u64],
     presence: &mut [u8],
 )
-    requires { ⌜ Codes (now bytes) codes mapping slots × (slots ≤ length (now correlations)) × (slots ≤ length (now presence)) ⌝ }
-    ensures { λ _. ⌜ (now (correlations .exit) ≡ over (tab slots (mappedIn (now (bytes .entry)) codes (mapping .length))) (now (correlations .entry)))
+    requires { ⌜ Codes (now bytes) codes mapping slots × (slots ≤ length (now correlations))
+        × (slots ≤ length (now presence)) ⌝ }
+    ensures { λ _. ⌜ (now (correlations .exit)
+        ≡ over (tab slots (mappedIn (now (bytes .entry)) codes (mapping .length))) (now (correlations .entry)))
         × (now (presence .exit) ≡ over (tab slots (λ _. 1)) (now (presence .entry))) ⌝ }
 {
     let mut at = codes;
@@ -90,7 +96,9 @@ fn fill_group(
     requires { ⌜ Codes (now bytes) at mapping (onesBefore (byte ∷ []) 0 count) × (count ≤ 8)
         × (from + count ≤ length (now correlations)) × (from + count ≤ length (now presence)) ⌝ }
     ensures { λ r. ⌜ (r ≡ at + onesBefore (byte ∷ []) 0 count * mapping .length)
-        × (now (correlations .exit) ≡ sets (now (correlations .entry)) from (tab count (markedIn (byte ∷ []) 0 (now (bytes .entry)) at (mapping .length))))
+        × (now (correlations .exit)
+        ≡ sets (now (correlations .entry)) from
+        (tab count (markedIn (byte ∷ []) 0 (now (bytes .entry)) at (mapping .length))))
         × (now (presence .exit) ≡ sets (now (presence .entry)) from (tab count (markIn (byte ∷ []) 0))) ⌝ }
 {
     let mut next = at;
@@ -119,9 +127,12 @@ fn fill_marked(
     correlations: &mut [u64],
     presence: &mut [u8],
 )
-    requires { ⌜ Codes (now bytes) codes mapping (onesBefore (now bytes) vector slots) × (vector + (slots + 7) / 8 ≤ length (now bytes))
+    requires { ⌜ Codes (now bytes) codes mapping (onesBefore (now bytes) vector slots)
+        × (vector + (slots + 7) / 8 ≤ length (now bytes))
         × (slots ≤ length (now correlations)) × (slots ≤ length (now presence)) ⌝ }
-    ensures { λ _. ⌜ (now (correlations .exit) ≡ over (tab slots (markedIn (now (bytes .entry)) vector (now (bytes .entry)) codes (mapping .length))) (now (correlations .entry)))
+    ensures { λ _. ⌜ (now (correlations .exit)
+        ≡ over (tab slots (markedIn (now (bytes .entry)) vector (now (bytes .entry)) codes (mapping .length)))
+        (now (correlations .entry)))
         × (now (presence .exit) ≡ over (tab slots (markIn (now (bytes .entry)) vector)) (now (presence .entry))) ⌝ }
 {
     let whole = slots / 8;
@@ -165,10 +176,14 @@ pub(crate) fn fill_slots(
     correlations: &mut [u64],
     presence: &mut [u8],
 ) -> Check
-    requires { ⌜ SlotsHeld (now bytes) vector codes control slots × (control .cs ≡ true → vector + (slots + 7) / 8 ≤ length (now bytes)) × (slots ≤ length (now correlations)) × (slots ≤ length (now presence)) ⌝ }
+    requires { ⌜ SlotsHeld (now bytes) vector codes control slots
+        × (control .cs ≡ true → vector + (slots + 7) / 8 ≤ length (now bytes)) × (slots ≤ length (now correlations))
+        × (slots ≤ length (now presence)) ⌝ }
     ensures { λ r. ⌜ (checked r ≡ passes)
-        × (now (correlations .exit) ≡ over (tab slots (correlationIn (now (bytes .entry)) vector codes control)) (now (correlations .entry)))
-        × (now (presence .exit) ≡ over (tab slots (presenceIn (now (bytes .entry)) vector control)) (now (presence .entry))) ⌝ }
+        × (now (correlations .exit)
+        ≡ over (tab slots (correlationIn (now (bytes .entry)) vector codes control)) (now (correlations .entry)))
+        × (now (presence .exit)
+        ≡ over (tab slots (presenceIn (now (bytes .entry)) vector control)) (now (presence .entry))) ⌝ }
 {
     let size = control.clen as usize;
     if control.cf {

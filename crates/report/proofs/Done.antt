@@ -25,9 +25,10 @@ use Rattle.layout.specs.Size.{matrixSize, fitRules}
 use Rattle.layout.specs.Triangle.{slotsOf}
 use Rattle.layout.specs.declared.pack.SdccFlp.{SdccFlp}
 use Rattle.layout.proofs.RowByRow.{slots-mono}
-use Rattle.reader.specs.Elements.{headOf, deviationCount, deviations as deviationsOf, correlations as correlationsOf, presence as presenceOf, presentIn}
+use Rattle.elements.specs.Elements.{headOf, deviationCount, deviations as deviationsOf, correlations as correlationsOf, presence as presenceOf, presentIn}
 use Rattle.reader.specs.Listed.{packAnswer, readListed}
-use Rattle.reader.specs.Rules.{elementRules, roomRules, done, readAnswer}
+use Rattle.reader.specs.Rules.{done, readAnswer}
+use Rattle.rules.specs.Rules.{elementRules, roomRules}
 use Rattle.reader.specs.declared.read.ReadAnswer.{ReadAnswer}
 use Rattle.reader.specs.declared.read.ReadAnswer.the-variants.{Done, Refused}
 use Rattle.reader.proofs.Whole.{Meets}

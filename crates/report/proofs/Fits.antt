@@ -14,7 +14,8 @@ use Rattle.answers.proofs.Joined.{joined-le}
 use Rattle.answers.proofs.Rules.{picked}
 use Rattle.layout.specs.Triangle.{slotsOf, slotOf}
 use Rattle.layout.proofs.RowByRow.{row-next, row-within, slots-mono}
-use Rattle.reader.specs.Rules.{inTurn, readAnswer}
+use Rattle.reader.specs.Rules.{readAnswer}
+use Rattle.rules.specs.Rules.{inTurn}
 use Rattle.report.specs.Lines.{plains, listedAfter, refusedLine, nLine, sLine, cLine, deviationLines, rowLines, slotLines, packLines}
 use Rattle.report.specs.Printed.{maxRows, maxSlots, room}
 use Rattle.report.specs.Text.{ascii, named, space, newline}

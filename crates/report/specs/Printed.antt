@@ -9,7 +9,7 @@ use Rattle.layout.specs.declared.size.Peek.{Peek}
 use Rattle.layout.specs.declared.size.Peek.the-variants.{Size, Nothing}
 use Rattle.layout.specs.Listed.{peeked}
 use Rattle.layout.specs.Size.{matrixSize}
-use Rattle.reader.specs.Elements.{headOf, deviations, correlations, presence}
+use Rattle.elements.specs.Elements.{headOf, deviations, correlations, presence}
 use Rattle.reader.specs.Rules.{readAnswer}
 use Rattle.report.specs.Lines.{tooBigLine, refusedLine, packLines}
 

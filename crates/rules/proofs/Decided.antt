@@ -13,12 +13,13 @@ use lib.ListN.{length}
 use Rattle.answers.specs.Table.{Answer, answer, wholes, pick, passes}
 use Rattle.imapb.specs.Tables.{supported}
 use Rattle.layout.specs.declared.control.ParseControl.{ParseControl}
-use Rattle.reader.specs.declared.head.Head.{Head}
-use Rattle.reader.specs.Elements.{deviationsAt, deviationCount, codesAt, presentCount, isIeee, ieee, part, codeBits}
-use Rattle.reader.specs.Listed.{turnsRule}
-use Rattle.reader.specs.Numbers.{deviationNumber, correlationNumber}
-use Rattle.reader.specs.Rules.{deviationFormat, codeFormat, codesRule, ruleH, ruleJ}
-use Rattle.reader.proofs.InTurn.{Format, in-turn}
+use Rattle.elements.specs.declared.head.Head.{Head}
+use Rattle.elements.specs.Elements.{deviationsAt, deviationCount, codesAt, presentCount, isIeee, ieee, part, codeBits}
+use Rattle.rules.specs.Turns.{turnsRule}
+use Rattle.elements.specs.Numbers.{deviationNumber, correlationNumber}
+use Rattle.elements.specs.Formats.{deviationFormat, codeFormat}
+use Rattle.rules.specs.Rules.{codesRule, ruleH, ruleJ}
+use Rattle.rules.proofs.InTurn.{Format, in-turn}
 
 -- ---- rule i), as the reader tests it
 module _ (c : ParseControl) (present left : ℕ) where

@@ -16,13 +16,14 @@ use Rattle.answers.proofs.Next.{next-zero, Says, rules}
 use Rattle.layout.specs.Size.{maxRows, maxSlots}
 use Rattle.layout.specs.Triangle.{slotsOf}
 use Rattle.layout.proofs.RowByRow.{few-slots}
-use Rattle.reader.specs.declared.head.Head.{Head}
-use Rattle.reader.specs.Elements.{deviationsAt, deviationCount, codesAt, presentCount}
-use Rattle.reader.specs.Fill.{SlotsHeld, Within}
-use Rattle.reader.specs.Rules.{inTurn, deviationFormat, ruleH, ruleI, ruleJ, ruleK, elementRules, roomRules}
-use Rattle.reader.proofs.InTurn.{Format}
-use Rattle.reader.proofs.Decided.{deviation-format, code-format}
-use Rattle.reader.proofs.Vector.{present-le}
+use Rattle.elements.specs.declared.head.Head.{Head}
+use Rattle.elements.specs.Elements.{deviationsAt, deviationCount, codesAt, presentCount}
+use Rattle.elements.specs.Formats.{deviationFormat}
+use Rattle.elements.specs.Held.{SlotsHeld, Within}
+use Rattle.rules.specs.Rules.{inTurn, ruleH, ruleI, ruleJ, ruleK, codeRules, elementRules, roomRules}
+use Rattle.rules.proofs.InTurn.{Format}
+use Rattle.rules.proofs.Decided.{deviation-format, code-format}
+use Rattle.elements.proofs.Vector.{present-le}
 
 -- ---- how large the counts can be
 pub count-le : (h : Head) → deviationCount h ≤ h .n
@@ -70,9 +71,9 @@ pub record Held (bytes : List ℕ) (h : Head) : Type 0 where
   pub format : 0 < deviationCount h → deviationFormat (h .control) ≡ passes
   pub slots : SlotsHeld bytes (h .body) (codesAt h) (h .control) (slotsOf (h .n))
 
-pub held : (bytes : List ℕ) (h : Head) → Within bytes h → elementRules bytes h ≡ passes → Held bytes h
+pub held : (bytes : List ℕ) (h : Head) → Within bytes h → elementRules bytes h .number ≡ 0 → Held bytes h
 held bytes h w e =
-    let a = next-zero (ruleH bytes h) (next (ruleI bytes h) (next (ruleJ bytes h) (ruleK bytes h))) (ap (λ (x : Answer). x .number) e) in
+    let a = next-zero (ruleH bytes h) (codeRules bytes h) e in
     let b = next-zero (ruleI bytes h) (next (ruleJ bytes h) (ruleK bytes h)) (a .1) in
     let j = next-zero (ruleJ bytes h) (ruleK bytes h) (b .1) in
     let ds = turns-held bytes (deviationsAt h) (h .control .slen) (deviation-format (h .control)) (deviationCount h) (w .vector) (a .0) in

@@ -12,9 +12,9 @@ use borrow.Author.Tests.{lt-ltb, le-ltb}
 use lib.Dec.{eqb, ltb, eqb·suc-zero}
 use lib.ListN.{length}
 use Rattle.answers.specs.Table.{Answer, answer, pick, passes, next}
-use Rattle.reader.specs.Listed.{refusalOf, turnsRule}
-use Rattle.reader.specs.Numbers.{bits, refused, element}
-use Rattle.reader.specs.Rules.{inTurn}
+use Rattle.rules.specs.Turns.{turnsRule}
+use Rattle.elements.specs.Numbers.{bits, refused, refusalOf, element}
+use Rattle.rules.specs.Rules.{inTurn}
 
 -- a format is refused, or passes
 abbrev pub Format : Answer → Type 0

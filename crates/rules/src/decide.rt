@@ -1,26 +1,25 @@
-//! Rules h) to l): everything that can be refused, decided before an entry is written.
-use crate::head::Head;
-use crate::head::deviation_count;
-use crate::head::pack_of;
-use crate::head::places_of;
-use crate::number::correlation_at;
-use crate::number::deviation_at;
-use crate::number::left;
-use crate::present::present_count;
+//! Rules a) to k), of the bytes alone. h) and j) are decided by their first element and by how many bytes there are.
 use crate::turns::in_turn;
 use answers::Check;
 use answers::Refusal;
+use elements::head::Opened;
+use elements::head::Places;
+use elements::head::deviation_count;
+use elements::head::open_pack;
+use elements::number::correlation_at;
+use elements::number::deviation_at;
+use elements::number::left;
+use elements::present::present_count;
 use layout::control::ParseControl;
-use layout::triangle::corr_slots;
 ghost use mathlib.Core.Path.{_≡_};
 ghost use Prim.Native.Nat.{_-_, _*_, _<_, _^_};
 ghost use lib.ListN.{length};
-ghost use Rattle.answers.specs.Table.{next};
 ghost use Rattle.answers.specs.Listed.{checked};
-ghost use Rattle.reader.specs.Fill.{Within};
-ghost use Rattle.reader.specs.Listed.{turnsRule};
-ghost use Rattle.reader.specs.Numbers.{correlationNumber};
-ghost use Rattle.reader.specs.Rules.{codesRule, overRule, ruleH, ruleI, ruleJ, ruleK, elementRules, roomRules};
+ghost use Rattle.elements.specs.Held.{Placed};
+ghost use Rattle.elements.specs.Listed.{openedListed, verdict};
+ghost use Rattle.elements.specs.Numbers.{correlationNumber};
+ghost use Rattle.rules.specs.Turns.{turnsRule};
+ghost use Rattle.rules.specs.Rules.{codesRule, overRule, ruleH, codeRules, elementRules, packRules};
 
 // Rule i): the codes that a Bit Vector announces are there.
 fn codes_there(control: ParseControl, present: usize, after: usize) -> Check
@@ -38,12 +37,12 @@ fn codes_there(control: ParseControl, present: usize, after: usize) -> Check
 }
 
 // Rule h): every deviation, by the first of them.
-fn deviations_held(bytes: &[u8], head: Head) -> Check
-    requires { ⌜ Within (now bytes) head ⌝ }
-    ensures { λ r. ⌜ checked r ≡ ruleH (now (bytes .entry)) head ⌝ }
+fn deviations_held(bytes: &[u8], places: Places) -> Check
+    requires { ⌜ Placed (now bytes) places ⌝ }
+    ensures { λ r. ⌜ checked r ≡ ruleH (now (bytes .entry)) (places .head) ⌝ }
 {
+    let head = places.head;
     let control = head.control;
-    let places = places_of(bytes, head);
     let first = deviation_at(bytes, places.deviations, control);
     in_turn(
         first,
@@ -56,7 +55,9 @@ fn deviations_held(bytes: &[u8], head: Head) -> Check
 // Rule j): every present slot, by the first of them.
 fn codes_held(bytes: &[u8], control: ParseControl, at: usize, present: usize) -> Check
     requires { ⌜ present * control .clen < 2 ^ 64 ⌝ }
-    ensures { λ r. ⌜ checked r ≡ turnsRule (correlationNumber (now (bytes .entry)) at control) present (control .clen) (length (now (bytes .entry)) - at) ⌝ }
+    ensures { λ r. ⌜ checked r
+        ≡ turnsRule (correlationNumber (now (bytes .entry)) at control) present (control .clen)
+        (length (now (bytes .entry)) - at) ⌝ }
 {
     let first = correlation_at(bytes, at, control);
     in_turn(first, present, control.clen as usize, left(bytes, at))
@@ -76,14 +77,14 @@ fn nothing_over(bytes: &[u8], end: usize) -> Check
 }
 
 // Rules i) to k).
-fn codes_whole(bytes: &[u8], head: Head) -> Check
-    requires { ⌜ Within (now bytes) head ⌝ }
-    ensures { λ r. ⌜ checked r ≡ next (ruleI (now (bytes .entry)) head) (next (ruleJ (now (bytes .entry)) head) (ruleK (now (bytes .entry)) head)) ⌝ }
+fn codes_whole(bytes: &[u8], places: Places) -> Check
+    requires { ⌜ Placed (now bytes) places ⌝ }
+    ensures { λ r. ⌜ checked r ≡ codeRules (now (bytes .entry)) (places .head) ⌝ }
 {
+    let head = places.head;
     let control = head.control;
-    let places = places_of(bytes, head);
     let at = places.codes;
-    let present = present_count(bytes, head.body, control, corr_slots(head.n) as usize);
+    let present = present_count(bytes, head);
     let there = codes_there(control, present, left(bytes, at));
     let Check::Passes = there else {
         return there;
@@ -96,44 +97,28 @@ fn codes_whole(bytes: &[u8], head: Head) -> Check
 }
 
 // Rules h) to k), of a pack that has passed a) to g).
-pub(crate) fn decide(bytes: &[u8], head: Head) -> Check
-    requires { ⌜ Within (now bytes) head ⌝ }
-    ensures { λ r. ⌜ checked r ≡ elementRules (now (bytes .entry)) head ⌝ }
+fn elements_whole(bytes: &[u8], places: Places) -> Check
+    requires { ⌜ Placed (now bytes) places ⌝ }
+    ensures { λ r. ⌜ checked r ≡ elementRules (now (bytes .entry)) (places .head) ⌝ }
 {
-    let held = deviations_held(bytes, head);
+    let held = deviations_held(bytes, places);
     let Check::Passes = held else {
         return held;
     };
-    codes_whole(bytes, head)
+    codes_whole(bytes, places)
 }
 
-// Rule l): the first short buffer.
-pub(crate) fn check_rooms(
-    head: Head,
-    deviations: usize,
-    correlations: usize,
-    presence: usize,
-) -> Check
-    ensures { λ r. ⌜ checked r ≡ roomRules head deviations correlations presence ⌝ }
+// Rules a) to k): the places of a pack that they pass.
+pub fn decide(bytes: &[u8]) -> Opened
+    ensures { λ r. ⌜ openedListed r ≡ verdict (now (bytes .entry)) (packRules (now (bytes .entry))) ⌝ }
 {
-    let pack = pack_of(head);
-    if deviations < pack.deviations {
-        return Check::Refused(Refusal::BufferTooSmall {
-            needed: pack.deviations,
-            got: deviations,
-        });
+    let opened = open_pack(bytes);
+    let Opened::Pack(places) = opened else {
+        return opened;
+    };
+    let whole = elements_whole(bytes, places);
+    if let Check::Refused(refusal) = whole {
+        return Opened::Refused(refusal);
     }
-    if correlations < pack.slots {
-        return Check::Refused(Refusal::BufferTooSmall {
-            needed: pack.slots,
-            got: correlations,
-        });
-    }
-    if presence < pack.slots {
-        return Check::Refused(Refusal::BufferTooSmall {
-            needed: pack.slots,
-            got: presence,
-        });
-    }
-    Check::Passes
+    opened
 }

@@ -11,8 +11,10 @@ use Rattle.imapb.specs.Tables.{rangeRule}
 use Rattle.layout.specs.declared.control.ParseControl.{ParseControl}
 use Rattle.layout.specs.Size.{matrixSize, controlOf, bodyAt, headRules, fitRules, sizeRules}
 use Rattle.numbers.specs.BerOid.{oidRead}
-use Rattle.reader.specs.Elements.{headOf, deviationsAt, deviationCount, codesAt, presentCount, endAt}
-use Rattle.reader.specs.Rules.{inTurn, deviationFormat, codeFormat, codesRule, overRule, ruleH, ruleI, ruleJ, ruleK, elementRules, roomRules, done}
+use Rattle.elements.specs.Elements.{headOf, deviationsAt, deviationCount, codesAt, presentCount, endAt}
+use Rattle.elements.specs.Formats.{deviationFormat, codeFormat}
+use Rattle.reader.specs.Rules.{done}
+use Rattle.rules.specs.Rules.{inTurn, codesRule, overRule, ruleH, ruleI, ruleJ, ruleK, elementRules, roomRules}
 use Rattle.writer.specs.Pack.{packBytes}
 use Rattle.trip.specs.Answered.{Answered}
 use Rattle.writer.specs.Rules.{countRules, rangeRules, roomRule}

@@ -13,8 +13,8 @@ use Rattle.answers.specs.Lent.{tab}
 use Rattle.answers.proofs.Lent.{tab-same}
 use Rattle.layout.specs.Size.{maxRows, matrixSize, sizeRules, fitRules}
 use Rattle.layout.specs.Triangle.{slotsOf}
-use Rattle.reader.specs.Elements.{presentBefore, headOf, deviationCount}
-use Rattle.reader.specs.Rules.{inTurn, elementRules, roomRules}
+use Rattle.elements.specs.Elements.{presentBefore, headOf, deviationCount}
+use Rattle.rules.specs.Rules.{inTurn, elementRules, roomRules}
 use Rattle.writer.specs.Pack.{element1, element2, formBytes}
 use Rattle.trip.specs.Found.{controlFor, HeadFound, BodyFound}
 use Rattle.trip.specs.Back.{Back}

@@ -15,9 +15,11 @@ use Rattle.layout.specs.declared.pack.SdccFlp.{SdccFlp}
 use Rattle.layout.specs.Triangle.{slotOf, slotsOf, IsPair}
 use Rattle.layout.proofs.Fits.{fits-tells}
 use Rattle.layout.proofs.RowByRow.{row-by-row}
-use Rattle.reader.specs.Elements.{headOf, deviationCount, deviations, correlations}
-use Rattle.reader.specs.Listed.{packAnswer, packOf}
-use Rattle.reader.specs.Rules.{elementRules, roomRules, done, readAnswer}
+use Rattle.elements.specs.Elements.{headOf, deviationCount, deviations, correlations}
+use Rattle.elements.specs.Listed.{packOf}
+use Rattle.reader.specs.Listed.{packAnswer}
+use Rattle.reader.specs.Rules.{done, readAnswer}
+use Rattle.rules.specs.Rules.{elementRules, roomRules}
 use Rattle.reader.proofs.OneAnswer.{pack-one}
 use Rattle.matrix.specs.Lookup.{number, entryAnswer}
 use Rattle.matrix.proofs.Cells.{entry-held, entry-none, no-row, no-column, diagonal, pair}

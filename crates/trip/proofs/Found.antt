@@ -17,7 +17,7 @@ use Rattle.numbers.proofs.Bytes.{length-bytes}
 use Rattle.imapb.specs.Mapping.{codeOf}
 use Rattle.layout.specs.Size.{maxRows, controlOf, bodyAt}
 use Rattle.layout.specs.Triangle.{slotsOf}
-use Rattle.reader.specs.Elements.{part, presentBefore, headOf, deviationsAt, codesAt}
+use Rattle.elements.specs.Elements.{part, presentBefore, headOf, deviationsAt, codesAt}
 use Rattle.writer.specs.Pack.{element1, element2, element3, element4, element5, vectorByte, deviationBytes, codeBytes, formBytes}
 use Rattle.trip.specs.Found.{HeadFound, BodyFound, Found, behind}
 use Rattle.trip.proofs.Vector.{present-found, counted-found}

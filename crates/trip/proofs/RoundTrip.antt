@@ -23,7 +23,7 @@ use Rattle.imapb.proofs.Law.{kept}
 use Rattle.imapb.proofs.Near.{near}
 use Rattle.layout.specs.Size.{maxRows}
 use Rattle.layout.specs.Triangle.{slotsOf}
-use Rattle.reader.specs.Elements.{headOf, deviations, correlations, presence}
+use Rattle.elements.specs.Elements.{headOf, deviations, correlations, presence}
 use Rattle.writer.specs.Pack.{isZero, sent, isSparse, packBytes}
 use Rattle.writer.specs.Rules.{countRules, rangeRules, writeAnswer}
 use Rattle.writer.proofs.EqualZero.{zero-is}

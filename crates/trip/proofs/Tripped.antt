@@ -15,7 +15,7 @@ use Rattle.answers.specs.declared.Refusal.{Refusal}
 use Rattle.answers.proofs.OneToOne.{refused-not-done}
 use Rattle.answers.proofs.Lent.{refused-leaves, length-tab, getD-tab}
 use Rattle.answers.proofs.Next.{next-passed}
-use Rattle.reader.specs.Elements.{headOf, deviations, correlations, presence}
+use Rattle.elements.specs.Elements.{headOf, deviations, correlations, presence}
 use Rattle.reader.specs.Rules.{readAnswer}
 use Rattle.writer.specs.Pack.{isZero, sent, isSparse, packBytes}
 use Rattle.writer.specs.Rules.{writeAnswer}

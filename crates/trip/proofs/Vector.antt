@@ -18,8 +18,8 @@ use Rattle.numbers.specs.Digits.{spelt}
 use Rattle.numbers.specs.Words.{bytesOf}
 use Rattle.numbers.proofs.Digits.{spelt-append}
 use Rattle.numbers.proofs.Bytes.{length-bytes}
-use Rattle.reader.specs.Elements.{vectorBit, presentIn, presentBefore}
-use Rattle.reader.proofs.Vector.{present-more, present-le}
+use Rattle.elements.specs.Elements.{vectorBit, presentIn, presentBefore}
+use Rattle.elements.proofs.Vector.{present-more, present-le}
 use Rattle.writer.specs.Pack.{sent, vectorByte, element3, codeBytes}
 use Rattle.trip.specs.Found.{controlFor}
 

@@ -9,7 +9,7 @@ use lib.Ieee.{binary64, ofBits}
 use Rattle.answers.specs.Table.{answer, wholes, pick}
 use Rattle.answers.specs.Lent.{tab}
 use Rattle.imapb.specs.Mapping.{inRange}
-use Rattle.reader.specs.Elements.{headOf, deviations, correlations, presence}
+use Rattle.elements.specs.Elements.{headOf, deviations, correlations, presence}
 use Rattle.reader.specs.Rules.{readAnswer}
 use Rattle.writer.specs.Pack.{sent}
 use Rattle.trip.specs.Values.{deviationKept, correlationKept}

@@ -6,8 +6,8 @@ use Rattle.answers.specs.Table.{Answer}
 use Rattle.answers.specs.Lent.{over}
 use Rattle.layout.specs.Size.{matrixSize, controlOf, bodyAt}
 use Rattle.layout.specs.Triangle.{slotOf, IsPair}
-use Rattle.reader.specs.Elements.{headOf, deviationsAt, codesAt, deviationIn, correlationIn, deviations, correlations}
-use Rattle.reader.specs.Listed.{packOf}
+use Rattle.elements.specs.Elements.{headOf, deviationsAt, codesAt, deviationIn, correlationIn, deviations, correlations}
+use Rattle.elements.specs.Listed.{packOf}
 use Rattle.matrix.specs.Lookup.{number, noSuchCell, cellAnswer}
 
 module _ (bytes : List ℕ) where

@@ -11,7 +11,7 @@ use Rattle.numbers.specs.Words.{bytesOf}
 use Rattle.imapb.specs.Mapping.{codeOf}
 use Rattle.layout.specs.declared.control.ParseControl.{ParseControl}
 use Rattle.layout.specs.Size.{matrixSize, controlOf, bodyAt, headRules}
-use Rattle.reader.specs.Elements.{part, presentIn, presentBefore, headOf, deviationsAt, codesAt, endAt}
+use Rattle.elements.specs.Elements.{part, presentIn, presentBefore, headOf, deviationsAt, codesAt, endAt}
 use Rattle.writer.specs.Pack.{element1, element2, element3, element4, element5, sent, deviationBytes, codeBytes, formBytes}
 
 -- the control of either form: CS; Cf=1 and Clen; Sf=0 and Slen=4

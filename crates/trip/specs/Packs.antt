@@ -5,7 +5,7 @@ use lib.Dec.{eqb}
 use lib.ListN.{length}
 use Rattle.answers.specs.Table.{Answer, answer, wholes, pick}
 use Rattle.layout.specs.Size.{maxRows, maxSlots}
-use Rattle.reader.specs.Elements.{headOf, deviations, correlations, presence}
+use Rattle.elements.specs.Elements.{headOf, deviations, correlations, presence}
 use Rattle.reader.specs.Rules.{readAnswer}
 use Rattle.writer.specs.Pack.{packBytes}
 use Rattle.writer.specs.Rules.{writeAnswer}

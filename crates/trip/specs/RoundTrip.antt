@@ -15,7 +15,7 @@ use Rattle.imapb.specs.Mapping.{inRange}
 use Rattle.imapb.specs.Precision.{Near}
 use Rattle.layout.specs.Size.{maxRows}
 use Rattle.layout.specs.Triangle.{slotsOf}
-use Rattle.reader.specs.Elements.{headOf, deviations, correlations, presence}
+use Rattle.elements.specs.Elements.{headOf, deviations, correlations, presence}
 use Rattle.reader.specs.Rules.{readAnswer}
 use Rattle.writer.specs.Pack.{formBytes, isSparse, packBytes}
 use Rattle.writer.specs.Rules.{writeAnswer}

@@ -7,7 +7,7 @@ use lib.Dec.{eqb}
 use lib.ListN.{length, take}
 use Rattle.answers.specs.Table.{Answer, next}
 use Rattle.answers.specs.Lent.{leaves}
-use Rattle.reader.specs.Elements.{headOf, deviations, correlations, presence}
+use Rattle.elements.specs.Elements.{headOf, deviations, correlations, presence}
 use Rattle.reader.specs.Rules.{readAnswer}
 use Rattle.writer.specs.Pack.{packBytes}
 use Rattle.writer.specs.Rules.{writeAnswer}

@@ -10,7 +10,7 @@ use Rattle.answers.specs.Table.{pick}
 use Rattle.numbers.specs.Conversions.{converted}
 use Rattle.imapb.specs.Mapping.{codeOf, valueOf, inRange}
 use Rattle.layout.specs.Size.{controlOf, bodyAt}
-use Rattle.reader.specs.Elements.{headOf, deviationsAt, codesAt, deviationIn, correlationIn, presenceIn}
+use Rattle.elements.specs.Elements.{headOf, deviationsAt, codesAt, deviationIn, correlationIn, presenceIn}
 use Rattle.writer.specs.Pack.{sent}
 
 -- a deviation that went through a binary32, and a correlation that went through its code

@@ -2,8 +2,8 @@
 -- Assumes nothing.
 use borrow.Author.Tests.{ne-eqb}
 use borrow.Author.Needs.{needs}
-use Rattle.reader.proofs.head.deviation_count.Statement.{statement}
-use Rattle.reader.proofs.head.deviation_count.Tie as tie
+use Rattle.elements.proofs.head.deviation_count.Statement.{statement}
+use Rattle.elements.proofs.head.deviation_count.Tie as tie
 
 cast-result : tie.Need-cast-result
 cast-result c = search needs

@@ -1,8 +1,8 @@
 -- `head::pack_of` meets its contract.
 -- Assumes nothing.
 use borrow.Author.Needs.{needs}
-use Rattle.reader.proofs.head.pack_of.Statement.{statement}
-use Rattle.reader.proofs.head.pack_of.Tie as tie
+use Rattle.elements.proofs.head.pack_of.Statement.{statement}
+use Rattle.elements.proofs.head.pack_of.Tie as tie
 
 cast-t2 : tie.Need-cast-t2
 cast-t2 c = search needs

@@ -3,10 +3,10 @@
 use Prim.Native.Nat.{_*_, _≤_}
 use native.Mathlib.Nat.{mul-le-mul-right}
 use native.Mathlib.Omega.{arith}
-use Rattle.layout.specs.Size.{maxRows}
 use borrow.Author.Needs.{needs}
-use Rattle.reader.proofs.head.places_of.Statement.{statement}
-use Rattle.reader.proofs.head.places_of.Tie as tie
+use Rattle.layout.specs.Size.{maxRows}
+use Rattle.elements.proofs.head.places_of.Statement.{statement}
+use Rattle.elements.proofs.head.places_of.Tie as tie
 
 vector-length-requires : tie.Need-vector-length-requires
 vector-length-requires c κs = search needs
@@ -31,7 +31,7 @@ add-t7 : tie.Need-add-t7
 add-t7 c = omega (arith, few c)
 
 returns : tie.Need-returns
-returns c = search needs
+returns c = rw (c .before .before .before .vector-length .ensures)
 
 pub places-of-spec : {M : Type 1} → statement M
 places-of-spec =

@@ -4,8 +4,8 @@ use native.Mathlib.Omega.{arith}
 use Rattle.layout.specs.Triangle.{slotsOf}
 use Rattle.layout.proofs.RowByRow.{square-fits}
 use borrow.Author.Needs.{needs}
-use Rattle.reader.proofs.head.vector_length.Statement.{statement}
-use Rattle.reader.proofs.head.vector_length.Tie as tie
+use Rattle.elements.proofs.head.vector_length.Statement.{statement}
+use Rattle.elements.proofs.head.vector_length.Tie as tie
 
 corr-slots-requires : tie.Need-corr-slots-requires
 corr-slots-requires c κs = search needs

@@ -8,9 +8,9 @@ use borrow.Author.Needs.{needs}
 use borrow.Author.Tests.{lt-ltb, le-ltb}
 use lib.ListN.{length}
 use Rattle.answers.specs.Table.{pick}
-use Rattle.reader.specs.Elements.{isIeee}
-use Rattle.reader.proofs.number.deviation_at.Statement.{statement}
-use Rattle.reader.proofs.number.deviation_at.Tie as tie
+use Rattle.elements.specs.Elements.{isIeee}
+use Rattle.elements.proofs.number.deviation_at.Statement.{statement}
+use Rattle.elements.proofs.number.deviation_at.Tie as tie
 
 -- one rule names the IEEE sizes, the other all but them
 turned : {A : Type 0} (b : Bool) (x y : A) → pick (not b) x y ≡ pick b y x

@@ -10,9 +10,9 @@ use borrow.Author.Tests.{lt-ltb, le-ltb, ne-eqb}
 use lib.ListN.{length, length-take, length-drop}
 use Rattle.numbers.specs.Words.{wordOf}
 use Rattle.numbers.proofs.Bytes.{word-lt}
-use Rattle.reader.specs.Elements.{part}
-use Rattle.reader.proofs.number.ieee_at.Statement.{statement}
-use Rattle.reader.proofs.number.ieee_at.Tie as tie
+use Rattle.elements.specs.Elements.{part}
+use Rattle.elements.proofs.number.ieee_at.Statement.{statement}
+use Rattle.elements.proofs.number.ieee_at.Tie as tie
 
 -- four bytes hold 32 bits
 word-32 : (l : List ℕ) → length l ≡ 4 → wordOf l < 2 ^ 32

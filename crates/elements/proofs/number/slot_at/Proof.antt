@@ -2,8 +2,8 @@
 -- Assumes nothing.
 use borrow.Author.Needs.{needs}
 use borrow.Author.Tests.{ne-eqb}
-use Rattle.reader.proofs.number.slot_at.Statement.{statement}
-use Rattle.reader.proofs.number.slot_at.Tie as tie
+use Rattle.elements.proofs.number.slot_at.Statement.{statement}
+use Rattle.elements.proofs.number.slot_at.Tie as tie
 
 correlation-at-requires : tie.Need-correlation-at-requires
 correlation-at-requires c κs = search needs

@@ -12,9 +12,9 @@ use types.Run.{OneOf, miss}
 use Rattle.imapb.specs.declared.decode.DecodedImapb.{DecodedImapb}
 use Rattle.imapb.specs.declared.decode.DecodedImapb.the-variants.{Value, Special, ReservedSpecial, OutOfRange}
 use Rattle.imapb.proofs.decode.DecodedImapb.{the-type}
-use Rattle.reader.specs.Elements.{valueBits}
-use Rattle.reader.proofs.number.value_bits.Statement.{statement}
-use Rattle.reader.proofs.number.value_bits.Tie as tie
+use Rattle.elements.specs.Elements.{valueBits}
+use Rattle.elements.proofs.number.value_bits.Statement.{statement}
+use Rattle.elements.proofs.number.value_bits.Tie as tie
 
 -- only a NaN has no bits
 equals-itself : (x : Float) → ne x x ≡ false → T (not (isNan x))

@@ -4,8 +4,8 @@ use mathlib.Core.Path.{sym}
 use native.Mathlib.Omega.{arith}
 use borrow.Author.Needs.{needs}
 use lib.ListN.{List·getD-eq-default}
-use Rattle.reader.proofs.present.byte_at.Statement.{statement}
-use Rattle.reader.proofs.present.byte_at.Tie as tie
+use Rattle.elements.proofs.present.byte_at.Statement.{statement}
+use Rattle.elements.proofs.present.byte_at.Tie as tie
 
 sub-if2 : tie.Need-sub-if2
 sub-if2 c = search needs

@@ -4,10 +4,10 @@ use mathlib.Core.Path.{_≡_, refl}
 use Prim.Native.Nat.{_+_, _-_, _*_, _/_, _%_, _≤_}
 use native.Mathlib.Omega.{arith}
 use borrow.Author.Needs.{needs}
-use Rattle.reader.specs.Elements.{onesBefore}
-use Rattle.reader.proofs.Vector.{ones-to}
-use Rattle.reader.proofs.present.ones.Statement.{statement}
-use Rattle.reader.proofs.present.ones.Tie as tie
+use Rattle.elements.specs.Elements.{onesBefore}
+use Rattle.elements.proofs.Vector.{ones-to}
+use Rattle.elements.proofs.present.ones.Statement.{statement}
+use Rattle.elements.proofs.present.ones.Tie as tie
 
 abbrev Inv-loop : tie.InvT-loop
 Inv-loop bytes at slots whole count₀ i₀ count i = (i ≤ whole) × (count ≤ 8 * i) × (count ≡ onesBefore bytes at (8 * i))

@@ -2,9 +2,9 @@
 -- Assumes nothing.
 use borrow.Author.Needs.{needs}
 use borrow.Author.Tests.{ne-eqb}
-use Rattle.reader.proofs.Vector.{bit-is}
-use Rattle.reader.proofs.present.presence_of.Statement.{statement}
-use Rattle.reader.proofs.present.presence_of.Tie as tie
+use Rattle.elements.proofs.Vector.{bit-is}
+use Rattle.elements.proofs.present.presence_of.Statement.{statement}
+use Rattle.elements.proofs.present.presence_of.Tie as tie
 
 returns : tie.Need-returns
 returns c = rw (c .if1 .taken)

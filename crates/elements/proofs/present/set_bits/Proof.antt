@@ -6,8 +6,8 @@ use native.Mathlib.Omega.{arith}
 use borrow.Author.Needs.{needs}
 use lib.Count.{ones, ones-le}
 use lib.Pow.{shr-le}
-use Rattle.reader.proofs.present.set_bits.Statement.{statement}
-use Rattle.reader.proofs.present.set_bits.Tie as tie
+use Rattle.elements.proofs.present.set_bits.Statement.{statement}
+use Rattle.elements.proofs.present.set_bits.Tie as tie
 
 sub-result : tie.Need-sub-result
 sub-result c = search needs

@@ -7,8 +7,9 @@ use native.Mathlib.Omega.{arith}
 use borrow.Author.Needs.{needs}
 use Rattle.answers.specs.Lent.{tab}
 use Rattle.answers.proofs.Lent.{Front}
-use Rattle.reader.specs.Elements.{deviationIn}
-use Rattle.reader.proofs.Filled.{tab-none, tab-room, tab-more, tab-done, turn-value, turn-never, DeviationTurn, deviation-turn}
+use Rattle.elements.specs.Elements.{deviationIn}
+use Rattle.answers.proofs.Tab.{tab-none, tab-room, tab-more, tab-done}
+use Rattle.reader.proofs.Filled.{turn-value, turn-never, DeviationTurn, deviation-turn}
 use Rattle.reader.proofs.fill.fill_deviations.Statement.{statement}
 use Rattle.reader.proofs.fill.fill_deviations.Tie as tie
 
@@ -50,8 +51,8 @@ enum-known-number c = search needs
 enum-told : tie.Need-enum-told Inv-loop μ-loop
 enum-told c = search needs
 
-refused-number-requires : tie.Need-refused-number-requires Inv-loop μ-loop
-refused-number-requires c κs = search needs
+check-number-requires : tie.Need-check-number-requires Inv-loop μ-loop
+check-number-requires c κs = search needs
 
 same-length : tie.Need-same-length Inv-loop μ-loop
 same-length c = c .before .before .before .before .before .loop .inv .0 .long
@@ -107,7 +108,7 @@ fill-deviations-spec =
     deviation-at-requires
     enum-known-number
     enum-told
-    refused-number-requires
+    check-number-requires
     same-length
     returns
     mul-out

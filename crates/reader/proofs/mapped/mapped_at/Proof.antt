@@ -4,7 +4,7 @@ use mathlib.Core.Path.{ap, _∙_}
 use Prim.Native.Nat.{ℕ}
 use borrow.Author.Needs.{needs}
 use Rattle.imapb.specs.Special.{reading}
-use Rattle.reader.specs.Elements.{valueBits}
+use Rattle.elements.specs.Elements.{valueBits}
 use Rattle.reader.proofs.mapped.mapped_at.Statement.{statement}
 use Rattle.reader.proofs.mapped.mapped_at.Tie as tie
 

@@ -8,7 +8,7 @@ use lib.ListN.{length}
 use Rattle.answers.specs.Lent.{tab}
 use Rattle.answers.proofs.Lent.{Front}
 use Rattle.reader.specs.Fill.{Maps, mappedIn}
-use Rattle.reader.proofs.Filled.{tab-none, tab-room, tab-more, tab-done}
+use Rattle.answers.proofs.Tab.{tab-none, tab-room, tab-more, tab-done}
 use Rattle.reader.proofs.Marked.{code-there, code-next}
 use Rattle.reader.proofs.slots.fill_all.Statement.{statement}
 use Rattle.reader.proofs.slots.fill_all.Tie as tie

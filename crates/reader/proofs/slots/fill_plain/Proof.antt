@@ -6,8 +6,9 @@ use native.Mathlib.Omega.{arith}
 use borrow.Author.Needs.{needs}
 use Rattle.answers.specs.Lent.{tab}
 use Rattle.answers.proofs.Lent.{Front}
-use Rattle.reader.specs.Elements.{correlationIn, presenceIn}
-use Rattle.reader.proofs.Filled.{tab-none, tab-room, tab-more, tab-done, turn-value, turn-never, codeAt, first-code, SlotTurn, slot-turn}
+use Rattle.elements.specs.Elements.{correlationIn, presenceIn}
+use Rattle.answers.proofs.Tab.{tab-none, tab-room, tab-more, tab-done}
+use Rattle.reader.proofs.Filled.{turn-value, turn-never, codeAt, first-code, SlotTurn, slot-turn}
 use Rattle.reader.proofs.slots.fill_plain.Statement.{statement}
 use Rattle.reader.proofs.slots.fill_plain.Tie as tie
 
@@ -61,8 +62,8 @@ enum-known-number c = search needs
 enum-told : tie.Need-enum-told Inv-loop μ-loop
 enum-told c = search needs
 
-refused-number-requires : tie.Need-refused-number-requires Inv-loop μ-loop
-refused-number-requires c κs = search needs
+check-number-requires : tie.Need-check-number-requires Inv-loop μ-loop
+check-number-requires c κs = search needs
 
 same-length : tie.Need-same-length Inv-loop μ-loop
 same-length c = c .before .before .before .before .before .before .loop .inv .0 .long
@@ -139,7 +140,7 @@ fill-plain-spec =
     slot-at-requires
     enum-known-number
     enum-told
-    refused-number-requires
+    check-number-requires
     same-length
     same-length-2
     returns

@@ -1,8 +1,8 @@
 -- `decide::codes_held` meets its contract.
 -- Assumes nothing.
 use borrow.Author.Needs.{needs}
-use Rattle.reader.proofs.decide.codes_held.Statement.{statement}
-use Rattle.reader.proofs.decide.codes_held.Tie as tie
+use Rattle.rules.proofs.decide.codes_held.Statement.{statement}
+use Rattle.rules.proofs.decide.codes_held.Tie as tie
 
 correlation-at-requires : tie.Need-correlation-at-requires
 correlation-at-requires c κs = search needs

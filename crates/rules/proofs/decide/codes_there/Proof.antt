@@ -1,10 +1,10 @@
 -- `decide::codes_there` meets its contract.
 -- Assumes nothing.
 use borrow.Author.Tests.{not-true, not-false}
-use Rattle.reader.proofs.Decided as decided
+use Rattle.rules.proofs.Decided as decided
 use borrow.Author.Needs.{needs}
-use Rattle.reader.proofs.decide.codes_there.Statement.{statement}
-use Rattle.reader.proofs.decide.codes_there.Tie as tie
+use Rattle.rules.proofs.decide.codes_there.Statement.{statement}
+use Rattle.rules.proofs.decide.codes_there.Tie as tie
 
 returns : tie.Need-returns
 returns c = let a = c .before .before .args in decided.codes-all (a .control) (a .present) (a .after) (not-true (a .control .cs) (c .if1 .taken))

@@ -2,8 +2,8 @@
 -- Assumes nothing.
 use borrow.Author.Tests.{lt-ltb, le-ltb}
 use lib.ListN.{length}
-use Rattle.reader.proofs.decide.nothing_over.Statement.{statement}
-use Rattle.reader.proofs.decide.nothing_over.Tie as tie
+use Rattle.rules.proofs.decide.nothing_over.Statement.{statement}
+use Rattle.rules.proofs.decide.nothing_over.Tie as tie
 
 returns : tie.Need-returns
 returns c = let a = c .before .args in rw (lt-ltb (a .end) (length (a .bytes .now)) (c .if1 .taken))

@@ -1,11 +1,11 @@
--- `decide::check_rooms` meets its contract.
+-- `rooms::check_rooms` meets its contract.
 -- Assumes nothing.
 use borrow.Author.Tests.{lt-ltb, le-ltb}
 use Rattle.layout.specs.Triangle.{slotsOf}
-use Rattle.reader.specs.Elements.{deviationCount}
+use Rattle.elements.specs.Elements.{deviationCount}
 use borrow.Author.Needs.{needs}
-use Rattle.reader.proofs.decide.check_rooms.Statement.{statement}
-use Rattle.reader.proofs.decide.check_rooms.Tie as tie
+use Rattle.rules.proofs.rooms.check_rooms.Statement.{statement}
+use Rattle.rules.proofs.rooms.check_rooms.Tie as tie
 
 pack-of-requires : tie.Need-pack-of-requires
 pack-of-requires c κs = search needs

@@ -3,8 +3,8 @@
 use borrow.Author.Needs.{needs}
 use borrow.Author.Tests.{ne-eqb, lt-ltb, le-ltb}
 use Rattle.answers.proofs.OneToOne.{refused-not-done}
-use Rattle.reader.proofs.turns.in_turn.Statement.{statement}
-use Rattle.reader.proofs.turns.in_turn.Tie as tie
+use Rattle.rules.proofs.turns.in_turn.Statement.{statement}
+use Rattle.rules.proofs.turns.in_turn.Tie as tie
 
 returns : tie.Need-returns
 returns c = rw (c .if1 .taken)
@@ -15,11 +15,11 @@ enum-told c = search needs
 enum-told-2 : tie.Need-enum-told-2
 enum-told-2 c = search needs
 
-refused-number-requires : tie.Need-refused-number-requires
-refused-number-requires c κs = search needs
+check-number-requires : tie.Need-check-number-requires
+check-number-requires c κs = search needs
 
 returns-2 : tie.Need-returns-2
-returns-2 c = rw (ne-eqb _ 0 (c .before .before .before .if1 .left), c .refused-number .ensures, c .before .enum-told2 .given .1, refused-not-done)
+returns-2 c = rw (ne-eqb _ 0 (c .before .before .before .if1 .left), c .check-number .ensures, c .before .enum-told2 .given .1, refused-not-done)
 
 mul-if2 : tie.Need-mul-if2
 mul-if2 c = search needs
@@ -37,7 +37,7 @@ in-turn-spec =
     returns
     enum-told
     enum-told-2
-    refused-number-requires
+    check-number-requires
     returns-2
     mul-if2
     returns-3

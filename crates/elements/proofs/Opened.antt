@@ -1,0 +1,90 @@
+-- Opening a pack: what its header tells, and what each refusal comes to.
+-- Assumes nothing.
+use mathlib.Core.Path.{_≡_, refl, sym, ap, _∙_}
+use mathlib.Core.Bool.{Bool, true, false}
+use mathlib.Core.List.{List, []}
+use Prim.Native.Nat.{ℕ, _+_, _-_, _/_, _≤_}
+use native.Mathlib.Omega.{arith}
+use borrow.Author.Tests.{eqb-true}
+use lib.Dec.{eqb, ltb}
+use lib.ListN.{length}
+use Rattle.answers.specs.Listed.{listed}
+use Rattle.answers.specs.Table.{Answer, answer, pick, passes, next}
+use Rattle.answers.specs.declared.Refusal.{Refusal}
+use Rattle.answers.proofs.Next.{next-zero}
+use Rattle.answers.proofs.OneToOne.{refused-not-done}
+use Rattle.answers.proofs.Rules.{picked}
+use Rattle.numbers.specs.BerOid.{oidRead}
+use Rattle.layout.specs.declared.control.ParseControl.{ParseControl}
+use Rattle.layout.specs.declared.header.Header.the-variants.{Open, Short}
+use Rattle.layout.specs.Listed.{headerOf}
+use Rattle.layout.specs.Size.{matrixSize, controlOf, bodyAt, headRules, sizeRules, fitRules}
+use Rattle.layout.specs.Triangle.{slotsOf}
+use Rattle.layout.proofs.Fits.{fits-tells}
+use Rattle.layout.proofs.Peek.{head-tells, opened, short-is}
+use Rattle.elements.specs.declared.head.Head.{Head}
+use Rattle.elements.specs.declared.head.Places.{Places}
+use Rattle.elements.specs.Elements.{headOf, placesOf}
+use Rattle.elements.specs.Held.{Within, Placed}
+use Rattle.elements.specs.Listed.{opens, refused, verdict}
+
+-- ---- a verdict by its rules' answer
+pub verdict-refused : (bytes : List ℕ) {a : Answer} (r : Refusal) → listed r ≡ a → refused (listed r) ≡ verdict bytes a
+verdict-refused bytes r e = rw (← e, refused-not-done r)
+
+pub verdict-opens : (bytes : List ℕ) {a : Answer} → a ≡ passes → opens (placesOf (headOf bytes)) ≡ verdict bytes a
+verdict-opens bytes e = rw e
+
+-- ---- a header that was not read: 1
+head-refused : (t u : Bool) → eqb (next (pick t passes (answer 1 [])) (pick u (answer 1 []) passes) .number) 0 ≡ false
+    → next (pick t passes (answer 1 [])) (pick u (answer 1 []) passes) ≡ answer 1 []
+head-refused true true e = refl
+head-refused true false e = let z : _≡_ {A = ℕ} 0 1 = cc in absurd (omega arith)
+head-refused false u e = refl
+
+pub short-refused : (bytes : List ℕ) → Short ≡ headerOf bytes → refused (answer 1 []) ≡ verdict bytes (fitRules bytes)
+short-refused bytes e =
+    let h : headRules bytes ≡ answer 1 [] =
+    head-refused (eqb (oidRead bytes .number) 0) (ltb (length bytes) (bodyAt bytes)) (short-is bytes e) in
+    rw h
+
+-- ---- a header that was read
+module _ (bytes : List ℕ) {n : ℕ} {k : ParseControl} {b : ℕ} (o : Open n k b ≡ headerOf bytes) where
+  abbrev pub head : Head
+  head = record { n = n; control = k; body = b }
+
+  pub head-is : head ≡ headOf bytes
+  head-is = let p = opened bytes o in λ i. record { n = p .size i; control = p .control i; body = p .body i }
+
+-- ---- a verdict that opens, or refuses
+pub verdict-tells : (bytes : List ℕ) (a : Answer) {p : Places} → opens p ≡ verdict bytes a
+    → (a .number ≡ 0) × (p ≡ placesOf (headOf bytes))
+verdict-tells bytes a {p} =
+    picked (λ v. opens p ≡ v → (a .number ≡ 0) × (p ≡ placesOf (headOf bytes))) _ _ _ (λ t e. (eqb-true _ 0 t, (cc)))
+    (λ _ e. let z : _≡_ {A = ℕ} 0 1 = cc in absurd (omega arith))
+
+pub verdict-stops : (bytes : List ℕ) {a x : Answer} → refused x ≡ verdict bytes a → (eqb (a .number) 0 ≡ false) × (x ≡ a)
+verdict-stops bytes {a} {x} =
+    picked (λ v. refused x ≡ v → (eqb (a .number) 0 ≡ false) × (x ≡ a)) _ _ _
+    (λ _ e. let z : _≡_ {A = ℕ} 0 1 = cc in absurd (omega arith)) (λ f e. (f, (cc)))
+
+-- ---- what rules a) to g) tell of the elements
+pub fit-within : (bytes : List ℕ) → fitRules bytes .number ≡ 0 → Within bytes (headOf bytes)
+fit-within bytes z =
+    let n = matrixSize bytes in
+    let k = controlOf bytes in
+    let p = next-zero (headRules bytes) (sizeRules n (length bytes - bodyAt bytes) k) z in
+    let f = fits-tells n (length bytes - bodyAt bytes) k .done (p .1) in
+    let w = head-tells bytes .done (p .0) in
+    record {
+      rows = f .rows;
+      vector =
+          picked (λ (m : ℕ). bodyAt bytes + m ≤ length bytes) (k .cs) ((slotsOf n + 7) / 8) 0
+          (λ t. omega (arith, f .bits t, w)) (λ _. omega (arith, w));
+    }
+
+-- the places of a pack that was opened
+pub opened-placed : (bytes : List ℕ) {p : Places} → opens p ≡ verdict bytes (fitRules bytes) → Placed bytes p
+opened-placed bytes o =
+    let t = verdict-tells bytes (fitRules bytes) o in
+    rw (t .1) (record { within = fit-within bytes (t .0); is = refl })

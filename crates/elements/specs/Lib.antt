@@ -1,0 +1,5 @@
+pub mod Elements
+pub mod Formats
+pub mod Numbers
+pub mod Held
+pub mod Listed

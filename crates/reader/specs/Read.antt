@@ -1,0 +1,16 @@
+-- What the reader leaves of lent lists, by its answer: the pack's numbers over their front, or all as it was.
+use Prim.Native.Nat.{ℕ}
+use mathlib.Core.List.{List}
+use Rattle.answers.specs.Table.{Answer}
+use Rattle.answers.specs.Lent.{leaves}
+use Rattle.elements.specs.Elements.{headOf, deviations, correlations, presence}
+
+module _ (a : Answer) (bytes lent : List ℕ) where
+  abbrev pub leftDeviations : List ℕ
+  leftDeviations = leaves a (deviations bytes (headOf bytes)) lent
+
+  abbrev pub leftCorrelations : List ℕ
+  leftCorrelations = leaves a (correlations bytes (headOf bytes)) lent
+
+  abbrev pub leftPresence : List ℕ
+  leftPresence = leaves a (presence bytes (headOf bytes)) lent

@@ -1,0 +1,5 @@
+pub mod Decided
+pub mod Held
+pub mod InTurn
+pub mod OneAnswer
+pub mod Verdict
