@@ -1,0 +1,5 @@
+pub mod Order
+pub mod Pieces
+pub mod Figures
+pub mod Line
+pub mod OneAnswer

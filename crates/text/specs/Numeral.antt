@@ -1,0 +1,45 @@
+-- Numbers as a line spells them: what is left of the line, behind what was read.
+use Prim.Native.Nat.{ℕ, zero, suc, _+_, _-_, _*_, _%_, _^_}
+use mathlib.Core.List.{List, [], _∷_}
+use lib.Dec.{ltb, leb}
+use lib.ListN.{getD, drop}
+use Rattle.answers.specs.Table.{pick}
+use Rattle.text.specs.declared.numeral.Numeral.{Numeral}
+use Rattle.text.specs.declared.numeral.Numeral.the-variants.{Read, Malformed}
+
+-- what a byte is worth as an upper-case hex digit: `0` to `9`, `A` to `F`; any other 16
+unfoldable pub worth : ℕ → ℕ
+worth byte =
+    pick (ltb byte 0x30) 16
+    (pick (leb byte 0x39) (byte - 0x30) (pick (ltb byte 0x41) 16 (pick (leb byte 0x46) (byte - 0x37) 16)))
+
+-- past the end stands 0, which is no digit
+abbrev pub digitAt : List ℕ → ℕ → ℕ
+digitAt line at = worth (getD line at 0)
+
+-- ---- decimal: a value of 64 bits, and where the line goes on
+abbrev pub most : ℕ
+most = 2 ^ 64 - 1
+
+abbrev pub fitting : ℕ → ℕ → Numeral
+fitting value next = pick (leb value most) (Read value next) Malformed
+
+-- the digits that are left, behind the value so far
+abbrev pub decimalFrom : ℕ → ℕ → List ℕ → Numeral
+decimalFrom value next [] = fitting value next
+decimalFrom value next (b ∷ bs) =
+    pick (ltb (worth b) 10) (decimalFrom (value * 10 + worth b) (next + 1) bs) (fitting value next)
+
+-- at least one digit
+abbrev pub decimalAt : List ℕ → ℕ → Numeral
+decimalAt line at = pick (ltb (digitAt line at) 10) (decimalFrom 0 at (drop at line)) Malformed
+
+-- ---- hex: so many digits; the last sixteen are the value
+abbrev pub hexFrom : ℕ → ℕ → ℕ → List ℕ → Numeral
+hexFrom zero value next bs = Read value next
+hexFrom (suc k) value next [] = Malformed
+hexFrom (suc k) value next (b ∷ bs) =
+    pick (ltb (worth b) 16) (hexFrom k (value % 2 ^ 60 * 16 + worth b) (next + 1) bs) Malformed
+
+abbrev pub hexAt : List ℕ → ℕ → ℕ → Numeral
+hexAt line at digits = hexFrom digits 0 at (drop at line)

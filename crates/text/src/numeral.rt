@@ -1,0 +1,79 @@
+//! Numbers read from a line, from a place on.
+ghost use mathlib.Core.Path.{_≡_};
+ghost use lib.ListN.{getD};
+ghost use Rattle.text.specs.Numeral.{worth, digitAt, decimalAt, hexAt};
+
+// A number, and where the line goes on.
+pub enum Numeral {
+    Read { value: u64, next: usize },
+    Malformed,
+}
+
+// What a byte is worth as an upper-case hex digit; 16 where it is none.
+fn worth_of(byte: u8) -> u64
+    ensures { λ r. ⌜ r ≡ worth byte ⌝ }
+{
+    if byte < b'0' {
+        16
+    } else if byte <= b'9' {
+        (byte - b'0') as u64
+    } else if byte < b'A' {
+        16
+    } else if byte <= b'F' {
+        (byte - b'A') as u64 + 10
+    } else {
+        16
+    }
+}
+
+// The digit at a place; 16 where there is none.
+pub fn digit_at(line: &[u8], at: usize) -> u64
+    ensures { λ r. ⌜ r ≡ digitAt (now (line .entry)) at ⌝ }
+{
+    if at < line.len() {
+        worth_of(line[at])
+    } else {
+        16
+    }
+}
+
+// The longest run of decimal digits; none, or more than 2^64-1, is malformed.
+pub fn decimal(line: &[u8], at: usize) -> Numeral
+    ensures { λ r. ⌜ r ≡ decimalAt (now (line .entry)) at ⌝ }
+{
+    let mut value: u64 = 0;
+    let mut next = at;
+    let mut d = digit_at(line, at);
+    if 9 < d {
+        return Numeral::Malformed;
+    }
+    while d < 10 {
+        // value * 10 + d would not fit
+        if (u64::MAX - d) / 10 < value {
+            return Numeral::Malformed;
+        }
+        value = value * 10 + d;
+        next += 1;
+        d = digit_at(line, next);
+    }
+    Numeral::Read { value, next }
+}
+
+// So many hex digits. Of more than sixteen the last sixteen count.
+pub fn hex(line: &[u8], at: usize, digits: usize) -> Numeral
+    ensures { λ r. ⌜ r ≡ hexAt (now (line .entry)) at digits ⌝ }
+{
+    let mut value: u64 = 0;
+    let mut next = at;
+    let mut left = digits;
+    while 0 < left {
+        let d = digit_at(line, next);
+        if 15 < d {
+            return Numeral::Malformed;
+        }
+        value = value % 0x1000_0000_0000_0000 * 16 + d;
+        next += 1;
+        left -= 1;
+    }
+    Numeral::Read { value, next }
+}
