@@ -3,7 +3,9 @@ pub mod InTable
 pub mod Joined
 pub mod Lent
 pub mod Next
+pub mod OneAnswer
 pub mod OneToOne
+pub mod Rows
 pub mod Rules
 pub mod Runs
 pub mod Stored

@@ -21,7 +21,7 @@ abbrev cases : List ℕ
 cases = counts parts
 
 -- two readings of a refusal agree where they agree on each case
-of-each : {X : Type 0} (f g : Refusal → X) → All cases (λ c. f (make c) ≡ g (make c)) → (r : Refusal) → f r ≡ g r
+pub of-each : {X : Type 0} (f g : Refusal → X) → All cases (λ c. f (make c) ≡ g (make c)) → (r : Refusal) → f r ≡ g r
 of-each f g h r = rw (← (eta r)) (every cases (λ (c : Case cases). f (make c) ≡ g (make c)) h (as-values r))
 
 -- no refusal is done

@@ -1,4 +1,5 @@
 pub mod Table
 pub mod Listed
+pub mod Row
 pub mod Lent
 pub mod OneAnswer
