@@ -189,7 +189,3 @@ module _ {bytes : List ℕ} {r : ReadAnswer} {ds cs ps : List ℕ} (m : Lent byt
     -- and their lines are what is to be printed
     pub pack-lines : packLines (p .«matrix_size») (take (p .deviations) ds) (take (p .slots) cs) (take (p .slots) ps) ≡ readLines bytes
     pack-lines = rw (read-pack .0, deviations-are, correlations-are, presence-is, read-zero)
-
-    -- which fit
-    pub pack-room : length (packLines (p .«matrix_size») (take (p .deviations) ds) (take (p .slots) cs) (take (p .slots) ps)) ≤ room
-    pack-room = omega (arith, ap length pack-lines, read-fits bytes (m .small))

@@ -9,8 +9,8 @@ use Rattle.numbers.specs.Words.{wordOf}
 use Rattle.numbers.specs.Conversions.{nearest, converted}
 use Rattle.imapb.specs.Mapping.{value}
 use Rattle.layout.specs.Triangle.{slotsOf, slotOf}
+use Rattle.text.specs.Text.{ascii, places, hex}
 use Rattle.report.specs.Printed.{printed}
-use Rattle.report.specs.Text.{ascii, places, hex}
 
 -- P1 of document 01
 first : printed (0x02 ∷ 0x91 ∷ 0x04 ∷ 0x3F ∷ 0x80 ∷ 0x00 ∷ 0x00 ∷ 0x40 ∷ 0x00 ∷ 0x00 ∷ 0x00 ∷ 0x60 ∷ [])

@@ -16,10 +16,10 @@ use Rattle.layout.specs.Triangle.{slotsOf, slotOf}
 use Rattle.layout.proofs.RowByRow.{row-next, row-within, slots-mono}
 use Rattle.reader.specs.Rules.{readAnswer}
 use Rattle.rules.specs.Rules.{inTurn}
-use Rattle.report.specs.Lines.{plains, listedAfter, refusedLine, nLine, sLine, cLine, deviationLines, rowLines, slotLines, packLines}
+use Rattle.report.specs.Lines.{plains, numbers, refusedLine, nLine, sLine, cLine, deviationLines, rowLines, slotLines, packLines}
 use Rattle.report.specs.Printed.{maxRows, maxSlots, room}
-use Rattle.report.specs.Text.{ascii, named, space, newline}
-use Rattle.report.proofs.Figures.{length-decimal, longest-decimal, length-hex}
+use Rattle.text.specs.Text.{decimal, named, space}
+use Rattle.text.proofs.Figures.{length-decimal, longest-decimal, length-hex}
 
 -- ---- the lines of a pack of few rows
 n-length : (n d m : ℕ) → n < 100 → d < 100 → m < 10000 → length (nLine n d m) ≤ 30
@@ -72,10 +72,9 @@ pack-fits n ds cs ps few rows slots flags =
 
 -- ---- a refusal
 -- each number takes a space and at most 20 digits
-after-length : (text ns : List ℕ) → length (listedAfter text ns) ≤ length text + 21 * length ns
-after-length text [] = omega arith
-after-length text (n ∷ ns) =
-    omega (arith, after-length (text ++ named space n) ns, length-append text (named space n), longest-decimal n)
+numbers-length : (ns : List ℕ) → length (numbers ns) ≤ 21 * length ns
+numbers-length [] = omega arith
+numbers-length (n ∷ ns) = omega (arith, numbers-length ns, length-append (named space n) (numbers ns), length-append space (decimal n), longest-decimal n)
 
 -- an answer that carries at most three numbers
 pub record Few (a : Answer) : Type 0 where
@@ -89,15 +88,7 @@ length-plains (e ∷ es) = ap suc (length-plains es)
 -- its line fits
 pub refused-fits : (a : Answer) → Few a → length (refusedLine a) ≤ room
 refused-fits a f =
-    let text = named (ascii "refused ") (a .number) in
-    omega (
-      arith,
-      length-append (listedAfter text (plains (a .carries))) newline,
-      after-length text (plains (a .carries)),
-      length-plains (a .carries),
-      f .most,
-      longest-decimal (a .number),
-    )
+    simp length-append (omega (arith, numbers-length (plains (a .carries)), length-plains (a .carries), f .most, longest-decimal (a .number)))
 
 -- every rule of the reader's order has such an answer
 few-answer : (m : ℕ) (es : List Entry) → T (leb (length es) 3) → Few (answer m es)

@@ -1,5 +1,4 @@
-pub mod Put
-pub mod Figures
+pub mod Numbers
 pub mod Slots
 pub mod Fits
 pub mod Done

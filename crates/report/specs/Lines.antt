@@ -5,7 +5,7 @@ use lib.ListN.{length, getD}
 use Rattle.answers.specs.Table.{Entry, whole, bits64, Answer}
 use Rattle.answers.specs.Lent.{joined}
 use Rattle.layout.specs.Triangle.{slotOf}
-use Rattle.report.specs.Text.{ascii, space, newline, named, bitsEnd}
+use Rattle.text.specs.Text.{ascii, space, newline, named, spacedBits}
 
 -- more than this program reads
 abbrev pub tooBigLine : List ℕ
@@ -20,21 +20,21 @@ abbrev pub plains : List Entry → List ℕ
 plains [] = []
 plains (e ∷ es) = plain e ∷ plains es
 
--- what stands before them, and each of them behind it
-abbrev pub listedAfter : List ℕ → List ℕ → List ℕ
-listedAfter text [] = text
-listedAfter text (n ∷ ns) = listedAfter (text ++ named space n) ns
-
-abbrev pub numbersLine : ℕ → List ℕ → List ℕ
-numbersLine number ns = listedAfter (named (ascii "refused ") number) ns ++ newline
+abbrev pub numbers : List ℕ → List ℕ
+numbers [] = []
+numbers (n ∷ ns) = named space n ++ numbers ns
 
 abbrev pub refusedLine : Answer → List ℕ
-refusedLine a = numbersLine (a .number) (plains (a .carries))
+refusedLine a = named (ascii "refused ") (a .number) ++ numbers (plains (a .carries)) ++ newline
 
 -- ---- a pack that was read
 -- N, the deviation count and M
 abbrev pub nLine : ℕ → ℕ → ℕ → List ℕ
 nLine n d m = named (ascii "n ") n ++ named (ascii " deviations ") d ++ named (ascii " slots ") m ++ newline
+
+-- the end of a line: the bits of a binary64
+abbrev pub bitsEnd : ℕ → List ℕ
+bitsEnd bits = spacedBits bits ++ newline
 
 -- row, bits
 abbrev pub sLine : ℕ → ℕ → List ℕ

@@ -36,7 +36,8 @@ module _ (bytes : List ℕ) where
   abbrev pub answerLines : Answer → List ℕ
   answerLines a =
       pick (eqb (a .number) 0)
-      (packLines (matrixSize bytes) (deviations bytes (headOf bytes)) (correlations bytes (headOf bytes)) (presence bytes (headOf bytes)))
+      (packLines (matrixSize bytes)
+      (deviations bytes (headOf bytes)) (correlations bytes (headOf bytes)) (presence bytes (headOf bytes)))
       (refusedLine a)
 
   abbrev pub readLines : List ℕ
@@ -52,4 +53,5 @@ room = 65536
 
 -- less room: 5; otherwise done, with the text's length
 abbrev pub printAnswer : List ℕ → ℕ → Answer
-printAnswer bytes got = pick (ltb got room) (answer 5 (wholes (room ∷ got ∷ []))) (answer 0 (wholes (length (printed bytes) ∷ [])))
+printAnswer bytes got =
+    pick (ltb got room) (answer 5 (wholes (room ∷ got ∷ []))) (answer 0 (wholes (length (printed bytes) ∷ [])))

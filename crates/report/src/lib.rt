@@ -2,4 +2,3 @@
 mod lines;
 pub mod print;
 mod refusal;
-mod text;

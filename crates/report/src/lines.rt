@@ -1,38 +1,44 @@
 //! The lines of a pack that was read: n, then an s for each deviation, then a c for each slot.
-use crate::text::put_bits;
-use crate::text::put_named;
-use crate::text::put_text;
+use text::part::within;
+use text::put::put_bits;
+use text::put::put_byte;
+use text::put::put_named;
 ghost use mathlib.Core.Path.{_≡_};
-ghost use Prim.Native.Nat.{_+_, _≤_, _<_};
+ghost use Prim.Native.Nat.{_+_, _<_};
 ghost use lib.ListN.{length};
 ghost use Rattle.layout.specs.Triangle.{slotsOf, slotOf};
-ghost use Rattle.report.specs.Lines.{nLine, sLine, cLine, deviationLines, rowLines, slotLines, packLines};
-ghost use Rattle.report.specs.Put.{Put};
+ghost use Rattle.text.specs.Put.{Put};
+ghost use Rattle.report.specs.Lines.{bitsEnd, nLine, sLine, cLine, deviationLines, rowLines, slotLines, packLines};
 
 // N, the deviation count and M.
 fn put_counts(rows: usize, deviations: usize, slots: usize, at: usize, out: &mut [u8]) -> usize
-    requires { ⌜ at + length (nLine rows deviations slots) ≤ length (now out) ⌝ }
     ensures { λ r. ⌜ Put (nLine rows deviations slots) at (now (out .entry)) r (now (out .exit)) ⌝ }
 {
     let sized = put_named(b"n ", rows as u64, at, out);
     let rowed = put_named(b" deviations ", deviations as u64, sized, out);
     let counted = put_named(b" slots ", slots as u64, rowed, out);
-    put_text(b"\n", counted, out)
+    put_byte(b'\n', counted, out)
+}
+
+// The end of a line: a space, and the bits of a binary64.
+fn put_bits_end(bits: u64, at: usize, out: &mut [u8]) -> usize
+    ensures { λ r. ⌜ Put (bitsEnd bits) at (now (out .entry)) r (now (out .exit)) ⌝ }
+{
+    let next = put_bits(bits, at, out);
+    put_byte(b'\n', next, out)
 }
 
 fn put_deviation(row: usize, bits: u64, at: usize, out: &mut [u8]) -> usize
-    requires { ⌜ at + length (sLine row bits) ≤ length (now out) ⌝ }
     ensures { λ r. ⌜ Put (sLine row bits) at (now (out .entry)) r (now (out .exit)) ⌝ }
 {
     let rowed = put_named(b"s ", row as u64, at, out);
-    put_bits(bits, rowed, out)
+    put_bits_end(bits, rowed, out)
 }
 
 fn put_deviations(deviations: &[u64], at: usize, out: &mut [u8]) -> usize
-    requires { ⌜ at + length (deviationLines (now deviations)) ≤ length (now out) ⌝ }
     ensures { λ r. ⌜ Put (deviationLines (now (deviations .entry))) at (now (out .entry)) r (now (out .exit)) ⌝ }
 {
-    let mut next = at;
+    let mut next = within(at, out);
     let mut i: usize = 0;
     while i < deviations.len() {
         next = put_deviation(i, deviations[i], next, out);
@@ -42,13 +48,12 @@ fn put_deviations(deviations: &[u64], at: usize, out: &mut [u8]) -> usize
 }
 
 fn put_slot(i: usize, j: usize, present: u8, bits: u64, at: usize, out: &mut [u8]) -> usize
-    requires { ⌜ at + length (cLine i j present bits) ≤ length (now out) ⌝ }
     ensures { λ r. ⌜ Put (cLine i j present bits) at (now (out .entry)) r (now (out .exit)) ⌝ }
 {
     let rowed = put_named(b"c ", i as u64, at, out);
     let paired = put_named(b" ", j as u64, rowed, out);
     let marked = put_named(b" ", present as u64, paired, out);
-    put_bits(bits, marked, out)
+    put_bits_end(bits, marked, out)
 }
 
 // The slots of row i, whose first is `first`.
@@ -62,12 +67,12 @@ fn put_row(
     out: &mut [u8],
 ) -> usize
     requires { ⌜ (i < rows) × (first ≡ slotOf rows i (i + 1))
-        × (slotsOf rows ≡ length (now correlations)) × (slotsOf rows ≡ length (now presence))
-        × (at + length (rowLines rows (now correlations) (now presence) i) ≤ length (now out)) ⌝ }
-    ensures { λ r. ⌜ Put (rowLines rows (now (correlations .entry)) (now (presence .entry)) i) at (now (out .entry)) r (now (out .exit)) ⌝ }
+        × (slotsOf rows ≡ length (now correlations)) × (slotsOf rows ≡ length (now presence)) ⌝ }
+    ensures { λ r. ⌜ Put (rowLines rows (now (correlations .entry)) (now (presence .entry)) i)
+        at (now (out .entry)) r (now (out .exit)) ⌝ }
 {
     let count = rows - 1 - i;
-    let mut next = at;
+    let mut next = within(at, out);
     let mut k: usize = 0;
     while k < count {
         let slot = first + k;
@@ -79,11 +84,11 @@ fn put_row(
 
 // Row by row; the first slot of each row is carried along.
 fn put_slots(rows: usize, correlations: &[u64], presence: &[u8], at: usize, out: &mut [u8]) -> usize
-    requires { ⌜ (slotsOf rows ≡ length (now correlations)) × (slotsOf rows ≡ length (now presence))
-        × (at + length (slotLines rows (now correlations) (now presence)) ≤ length (now out)) ⌝ }
-    ensures { λ r. ⌜ Put (slotLines rows (now (correlations .entry)) (now (presence .entry))) at (now (out .entry)) r (now (out .exit)) ⌝ }
+    requires { ⌜ (slotsOf rows ≡ length (now correlations)) × (slotsOf rows ≡ length (now presence)) ⌝ }
+    ensures { λ r. ⌜ Put (slotLines rows (now (correlations .entry)) (now (presence .entry)))
+        at (now (out .entry)) r (now (out .exit)) ⌝ }
 {
-    let mut next = at;
+    let mut next = within(at, out);
     let mut first: usize = 0;
     let mut i: usize = 0;
     while i < rows {
@@ -102,9 +107,9 @@ pub(crate) fn put_pack(
     presence: &[u8],
     out: &mut [u8],
 ) -> usize
-    requires { ⌜ (slotsOf rows ≡ length (now correlations)) × (slotsOf rows ≡ length (now presence))
-        × (length (packLines rows (now deviations) (now correlations) (now presence)) ≤ length (now out)) ⌝ }
-    ensures { λ r. ⌜ Put (packLines rows (now (deviations .entry)) (now (correlations .entry)) (now (presence .entry))) 0 (now (out .entry)) r (now (out .exit)) ⌝ }
+    requires { ⌜ (slotsOf rows ≡ length (now correlations)) × (slotsOf rows ≡ length (now presence)) ⌝ }
+    ensures { λ r. ⌜ Put (packLines rows (now (deviations .entry)) (now (correlations .entry)) (now (presence .entry)))
+        0 (now (out .entry)) r (now (out .exit)) ⌝ }
 {
     let counted = put_counts(rows, deviations.len(), correlations.len(), 0, out);
     let rowed = put_deviations(deviations, counted, out);

@@ -1,21 +1,20 @@
 //! What the program prints.
 use crate::lines::put_pack;
 use crate::refusal::put_refusal;
-use crate::text::put_text;
 use answers::Refusal;
 use answers::Written;
 use layout::size::Peek;
 use layout::size::peek_matrix_size;
 use reader::read::ReadAnswer;
 use reader::read::decode_sdcc_flp;
+use text::put::put_text;
 ghost use mathlib.Core.Path.{_≡_};
 ghost use mathlib.Core.Bool.{false};
-ghost use Prim.Native.Nat.{_≤_};
 ghost use lib.ListN.{length};
 ghost use Rattle.answers.specs.Listed.{written};
 ghost use Rattle.answers.specs.Lent.{leaves};
-ghost use Rattle.report.specs.Printed.{room, isTooBig, readLines, printed, printAnswer};
-ghost use Rattle.report.specs.Put.{Put};
+ghost use Rattle.text.specs.Put.{Put};
+ghost use Rattle.report.specs.Printed.{isTooBig, readLines, printed, printAnswer};
 
 // The most that is read: so many bytes, and so many rows with their slots.
 const MAX_BYTES: usize = 20_480;
@@ -61,7 +60,7 @@ fn room_for_presence() -> [u8; MAX_SLOTS]
 
 // The reader's answer.
 fn put_read(bytes: &[u8], out: &mut [u8]) -> usize
-    requires { ⌜ (isTooBig (now bytes) ≡ false) × (room ≤ length (now out)) ⌝ }
+    requires { ⌜ isTooBig (now bytes) ≡ false ⌝ }
     ensures { λ r. ⌜ Put (readLines (now (bytes .entry))) 0 (now (out .entry)) r (now (out .exit)) ⌝ }
 {
     let mut deviations = room_for_deviations();
@@ -81,7 +80,6 @@ fn put_read(bytes: &[u8], out: &mut [u8]) -> usize
 }
 
 fn put_printed(bytes: &[u8], out: &mut [u8]) -> usize
-    requires { ⌜ room ≤ length (now out) ⌝ }
     ensures { λ r. ⌜ Put (printed (now (bytes .entry))) 0 (now (out .entry)) r (now (out .exit)) ⌝ }
 {
     if is_too_big(bytes) {

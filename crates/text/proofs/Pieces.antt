@@ -7,9 +7,8 @@ use Prim.Native.Nat.{ℕ, zero, suc, _+_, _≤_, _<_, min}
 use native.Mathlib.Nat.{add-zero}
 use native.Mathlib.Numerals.{add-one}
 use native.Mathlib.Omega.{arith}
-use lib.ListN.{length, take, getD, length-set, length-append}
-use lib.Seq.{sets, length-sets, take-suc, take-all, set-out}
-use Rattle.answers.specs.Lent.{joined}
+use lib.ListN.{length, length-append}
+use lib.Seq.{sets, length-sets, set-out}
 use Rattle.answers.proofs.Stored.{sets-more}
 use Rattle.text.specs.Put.{Put}
 use Rattle.text.proofs.Order.{lt-or-le}
@@ -48,21 +47,21 @@ module _ {x : List ℕ} {at : ℕ} {l : List ℕ} {r : ℕ} {m : List ℕ} (p : 
   pub put-whole : at + length x ≤ length l → r ≡ at + length x
   put-whole h = omega (arith, p .behind)
 
--- ---- a loop that puts a text from its front, after i turns
-pub record Copied (text : List ℕ) (at : ℕ) (l₀ : List ℕ) (i : ℕ) (l : List ℕ) (next : ℕ) : Type 0 where
-  pub within : i ≤ length text
-  pub is : Put (take i text) at l₀ next l
+-- ---- a loop of n turns that puts piece behind piece; `front i` is what i turns put
+pub record Puts (n : ℕ) (front : ℕ → List ℕ) (at : ℕ) (l₀ : List ℕ) (i : ℕ) (l : List ℕ) (next : ℕ) : Type 0 where
+  pub within : i ≤ n
+  pub is : Put (front i) at l₀ next l
 
-module _ {text : List ℕ} {at : ℕ} {l₀ : List ℕ} where
-  pub copied-none : {next : ℕ} → next ≡ min at (length l₀) → Copied text at l₀ 0 l₀ next
-  copied-none e = record { within = omega arith; is = rw e (put-none at l₀) }
+module _ {n : ℕ} {front : ℕ → List ℕ} {at : ℕ} {l₀ : List ℕ} where
+  pub puts-none : {next : ℕ} → front 0 ≡ [] → next ≡ min at (length l₀) → Puts n front at l₀ 0 l₀ next
+  puts-none z e = record { within = omega arith; is = rw (z, e) (put-none at l₀) }
 
-  module _ {i : ℕ} {l : List ℕ} {next : ℕ} (p : Copied text at l₀ i l next) where
-    pub copied-more : i < length text → {r : ℕ} {m : List ℕ} → Put (getD text i 0 ∷ []) next l r m → Copied text at l₀ (i + 1) m r
-    copied-more h q = record { within = omega arith; is = rw (add-one, take-suc text i 0 h) (put-then (p .is) q) }
+  module _ {i : ℕ} {l : List ℕ} {next : ℕ} (p : Puts n front at l₀ i l next) where
+    pub puts-more : i < n → {x : List ℕ} → front (suc i) ≡ front i ++ x → {r : ℕ} {m : List ℕ} → Put x next l r m → Puts n front at l₀ (i + 1) m r
+    puts-more h e q = record { within = omega arith; is = rw (add-one, e) (put-then (p .is) q) }
 
-    pub copied-done : length text ≤ i → Put text at l₀ next l
-    copied-done h = rw (take-all i text h) at (p .is)
+    pub puts-done : n ≤ i → Put (front n) at l₀ next l
+    puts-done h = let e : i ≡ n = omega (arith, p .within) in rw e at (p .is)
 
 -- ---- a loop that has the rest of a text to put
 pub record Rest (rest : List ℕ) (next : ℕ) (l text : List ℕ) (at : ℕ) (l₀ : List ℕ) : Type 0 where
