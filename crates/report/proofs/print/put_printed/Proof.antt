@@ -1,0 +1,36 @@
+-- `print::put_printed` meets its contract.
+-- Assumes nothing.
+use mathlib.Core.Path.{sym, _∙_}
+use borrow.Author.Needs.{needs}
+use Rattle.report.proofs.print.put_printed.Statement.{statement}
+use Rattle.report.proofs.print.put_printed.Tie as tie
+
+returns : tie.Need-returns
+returns c =
+    let w = c .before .before in
+    let v = w .before .before .before in
+    let u = v .before in
+    rw (sym (u .is-too-big .ensures) ∙ v .if1 .taken) (w .put-text .ensures)
+
+put-read-requires : tie.Need-put-read-requires
+put-read-requires c κs = sym (c .before .before .is-too-big .ensures) ∙ c .before .if1 .left
+
+returns-2 : tie.Need-returns-2
+returns-2 c =
+    let w = c .before .before in
+    let v = w .before .before in
+    let u = v .before in
+    rw (sym (u .is-too-big .ensures) ∙ v .if1 .left) (w .put-read .ensures)
+
+pub put-printed-spec : {M : Type 1} → statement M
+put-printed-spec =
+    tie.close
+    (tie.spec
+    (λ c κs. search needs)
+    (λ c. search needs)
+    (λ c κs. search needs)
+    (λ c. search needs)
+    returns
+    put-read-requires
+    (λ c. search needs)
+    returns-2)

@@ -1,0 +1,34 @@
+-- `refusal::put_refusal` meets its contract: the row holds what the refusal lists.
+-- Assumes nothing.
+use borrow.Author.Needs.{needs}
+use Rattle.text.proofs.Pieces.{put-then}
+use Rattle.report.proofs.Numbers.{row-number, row-values}
+use Rattle.report.proofs.refusal.put_refusal.Statement.{statement}
+use Rattle.report.proofs.refusal.put_refusal.Tie as tie
+
+returns : tie.Need-returns
+returns c =
+    let w = c .before .before in
+    let v = w .before .before .before .before in
+    let u = v .before .before .before .before .before in
+    let t = u .before .before .before in
+    let s = t .before .before .before in
+    let r = s .before .before .args .refusal in
+    rw (← (row-number r), ← (row-values r), ← (s .row-of .ensures), ← (t .within-words .ensures .1))
+    (put-then (put-then (u .put-named .ensures) (v .put-numbers .ensures)) (w .put-byte .ensures))
+
+pub put-refusal-spec : {M : Type 1} → statement M
+put-refusal-spec =
+    tie.close
+    (tie.spec
+    (λ c κs. search needs)
+    (λ c. search needs)
+    (λ c κs. search needs)
+    (λ c. search needs)
+    (λ c κs. search needs)
+    (λ c. search needs)
+    (λ c. search needs)
+    (λ c κs. search needs)
+    (λ c κs. search needs)
+    (λ c. search needs)
+    returns)
