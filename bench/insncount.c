@@ -1,4 +1,5 @@
-/* A plugin for qemu's user-mode emulator: counts the instructions that a program runs. The figure is the same at every run, where the time under an emulator says nothing. */
+/* A plugin for qemu's user-mode emulator: counts the instructions that a program runs. The figure is the same at every
+   run, where the time under an emulator says nothing. */
 #include <stddef.h>
 #include <stdint.h>
 #include <stdio.h>

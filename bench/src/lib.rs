@@ -1,4 +1,5 @@
-//! The Rust's own modules, a library by themselves as they are in their crate, so that they are compiled as its users have them.
+//! The Rust's own modules, a library by themselves as they are in their crate, so that they are compiled as its users
+//! have them.
 extern crate alloc;
 
 #[path = "../../compare/src/stand_in/mod.rs"]

@@ -63,7 +63,8 @@ pub fn edges() -> Vec<u64> {
     edges
 }
 
-// The numbers that the codes stand for at the ends of the range and between, and the numbers beside them: there the code changes.
+// The numbers that the codes stand for at the ends of the range and between, and the numbers beside them: there the
+// code changes.
 fn beside_codes(length: usize) -> Vec<Case> {
     let half = 8 * length as u64 - 2;
     let mut codes: Vec<u64> = (0..=half)

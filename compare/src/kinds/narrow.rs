@@ -1,4 +1,5 @@
-//! `narrow BITS`: a binary64 as the nearest binary32, by the Rust's writer, in the pack of one deviation that it writes.
+//! `narrow BITS`: a binary64 as the nearest binary32, by the Rust's writer, in the pack of one deviation that it
+//! writes.
 use super::{Case, Kind};
 use crate::klv::st1010::encode_sdcc_flp_mode2;
 use crate::random::Random;

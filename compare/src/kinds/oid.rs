@@ -10,7 +10,8 @@ pub const KIND: Kind = Kind {
     share: 1,
 };
 
-// Bytes at both ends of what a byte can mean: more follows or not, no digits or all, the top digits of 2^32 and below it.
+// Bytes at both ends of what a byte can mean: more follows or not, no digits or all, the top digits of 2^32 and below
+// it.
 const EDGES: [u8; 12] = [
     0x00, 0x01, 0x0F, 0x10, 0x7F, 0x80, 0x81, 0x8F, 0x90, 0xC0, 0xFE, 0xFF,
 ];

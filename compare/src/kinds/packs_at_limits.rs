@@ -1,4 +1,5 @@
-//! Byte strings that are the same at every run: all short ones, document 01's packs, and packs that end at and beside each element's end.
+//! Byte strings that are the same at every run: all short ones, document 01's packs, and packs that end at and beside
+//! each element's end.
 use super::oid::spelled;
 use super::packs::{controls, pack, Control, LONGEST};
 use crate::random::Random;

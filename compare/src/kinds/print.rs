@@ -40,7 +40,8 @@ fn of_length(bytes: &[u8], length: usize) -> Vec<u8> {
     bytes
 }
 
-// As many bytes as are read, and one fewer or more: packs with bytes left over, and those of 64 rows and 65, with codes of a length that has none.
+// As many bytes as are read, and one fewer or more: packs with bytes left over, and those of 64 rows and 65, with
+// codes of a length that has none.
 fn beside_bytes() -> Vec<Vec<u8>> {
     let mut random = Random::new(8);
     let mut packs = documented();

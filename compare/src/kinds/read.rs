@@ -75,7 +75,8 @@ fn sizes(bytes: &[u8]) -> [usize; 2] {
     sizes.map(usize::from)
 }
 
-// The bits of what was read from these bytes. Those of a NaN follow from the bytes: the Rust fixes none where it converts it.
+// The bits of what was read from these bytes. Those of a NaN follow from the bytes: the Rust fixes none where it
+// converts it.
 fn bits(number: f64, bytes: &[u8]) -> u64 {
     if !number.is_nan() {
         return number.to_bits();

@@ -1,4 +1,5 @@
-//! `usable N COUNT BITS.. COUNT BITS..`: whether a matrix can be used. The Rust has no such question, so document 01 is read a second time here.
+//! `usable N COUNT BITS.. COUNT BITS..`: whether a matrix can be used. The Rust has no such question, so document 01
+//! is read a second time here.
 use super::map::edges;
 use super::matrices::{counts, counts_around, counts_at_random, size, Counts, Matrix, TOO_LARGE};
 use super::packs::slots;

@@ -20,6 +20,15 @@ abbrev pub wholes : List ℕ → List Entry
 wholes [] = []
 wholes (n ∷ ns) = whole n ∷ wholes ns
 
+-- the numbers that entries of either kind carry
+abbrev pub plain : Entry → ℕ
+plain (whole n) = n
+plain (bits64 b) = b
+
+abbrev pub plains : List Entry → List ℕ
+plains [] = []
+plains (e ∷ es) = plain e ∷ plains es
+
 -- a rule of an order: where the test holds this answer, otherwise the next rule
 abbrev pub pick : {A : Type 0} → Bool → A → A → A
 pick true a b = a

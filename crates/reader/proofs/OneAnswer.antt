@@ -1,4 +1,5 @@
--- No second answer meets the contract of `decode_sdcc_flp`: two that do are the same, with what they leave in lent memory.
+-- No second answer meets the contract of `decode_sdcc_flp`: two that do are the same, with what they leave in lent
+-- memory.
 -- Assumes nothing.
 use mathlib.Core.Path.{_≡_, refl, sym, ap, _∙_}
 use mathlib.Core.List.{List}

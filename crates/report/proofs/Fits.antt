@@ -9,14 +9,14 @@ use native.Mathlib.Omega.{arith}
 use lib.Dec.{T, leb, leb→le}
 use lib.ListN.{length, getD, length-append}
 use Rattle.answers.specs.Lent.{joined}
-use Rattle.answers.specs.Table.{Entry, Answer, answer, pick}
+use Rattle.answers.specs.Table.{Entry, Answer, answer, pick, plains}
 use Rattle.answers.proofs.Joined.{joined-le}
 use Rattle.answers.proofs.Rules.{picked}
 use Rattle.layout.specs.Triangle.{slotsOf, slotOf}
 use Rattle.layout.proofs.RowByRow.{row-next, row-within, slots-mono}
 use Rattle.reader.specs.Rules.{readAnswer}
 use Rattle.rules.specs.Rules.{inTurn}
-use Rattle.report.specs.Lines.{plains, numbers, refusedLine, nLine, sLine, cLine, deviationLines, rowLines, slotLines, packLines}
+use Rattle.report.specs.Lines.{numbers, refusedLine, nLine, sLine, cLine, deviationLines, rowLines, slotLines, packLines}
 use Rattle.report.specs.Printed.{maxRows, maxSlots, room}
 use Rattle.text.specs.Text.{decimal, named, space}
 use Rattle.text.proofs.Figures.{length-decimal, longest-decimal, length-hex}

@@ -11,10 +11,9 @@ use lib.Seq.{take-all}
 use Rattle.answers.specs.declared.Refusal.{Refusal}
 use Rattle.answers.specs.Listed.{listed}
 use Rattle.answers.specs.Row.{rowOf, floats64, valuesOf}
-use Rattle.answers.specs.Table.{Answer, wholes, pick}
+use Rattle.answers.specs.Table.{Answer, wholes, pick, plains}
 use Rattle.answers.proofs.Rows.{row-lists}
 use Rattle.text.proofs.Order.{lt-or-le}
-use Rattle.report.specs.Lines.{plains}
 
 pub row-number : (r : Refusal) → rowOf r .number ≡ listed r .number
 row-number r = ap (λ (a : Answer). a .number) (row-lists r)

@@ -2,7 +2,7 @@
 use Prim.Native.Nat.{ℕ, _+_, _-_}
 use mathlib.Core.List.{List, [], _∷_, _++_}
 use lib.ListN.{length, getD}
-use Rattle.answers.specs.Table.{Entry, whole, bits64, Answer}
+use Rattle.answers.specs.Table.{Answer, plains}
 use Rattle.answers.specs.Lent.{joined}
 use Rattle.layout.specs.Triangle.{slotOf}
 use Rattle.text.specs.Text.{ascii, space, newline, named, spacedBits}
@@ -12,14 +12,6 @@ abbrev pub tooBigLine : List ℕ
 tooBigLine = ascii "too big for this program\n"
 
 -- ---- a refusal: its number, then its numbers in decimal, one space between
-abbrev pub plain : Entry → ℕ
-plain (whole n) = n
-plain (bits64 b) = b
-
-abbrev pub plains : List Entry → List ℕ
-plains [] = []
-plains (e ∷ es) = plain e ∷ plains es
-
 abbrev pub numbers : List ℕ → List ℕ
 numbers [] = []
 numbers (n ∷ ns) = named space n ++ numbers ns

@@ -8,7 +8,8 @@ ghost use Prim.Native.Nat.{_+_, _<_};
 ghost use lib.ListN.{length};
 ghost use Rattle.layout.specs.Triangle.{slotsOf, slotOf};
 ghost use Rattle.text.specs.Put.{Put};
-ghost use Rattle.report.specs.Lines.{bitsEnd, nLine, sLine, cLine, deviationLines, rowLines, slotLines, packLines};
+ghost use Rattle.report.specs.Lines.{bitsEnd, nLine, sLine, cLine};
+ghost use Rattle.report.specs.Lines.{deviationLines, rowLines, slotLines, packLines};
 
 // N, the deviation count and M.
 fn put_counts(rows: usize, deviations: usize, slots: usize, at: usize, out: &mut [u8]) -> usize

@@ -8,12 +8,7 @@ ghost use Rattle.answers.specs.Listed.{checked};
 ghost use Rattle.rules.specs.Rules.{roomRules};
 
 // The first short buffer.
-pub fn check_rooms(
-    head: Head,
-    deviations: usize,
-    correlations: usize,
-    presence: usize,
-) -> Check
+pub fn check_rooms(head: Head, deviations: usize, correlations: usize, presence: usize) -> Check
     ensures { λ r. ⌜ checked r ≡ roomRules head deviations correlations presence ⌝ }
 {
     let pack = pack_of(head);

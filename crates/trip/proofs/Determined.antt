@@ -1,4 +1,5 @@
--- Demand 1, the other half: of every public function, that the same input gives the same answer and leaves the same in lent memory.
+-- Demand 1, the other half: of every public function, that the same input gives the same answer and leaves the same
+-- in lent memory.
 -- Assumes nothing.
 use mathlib.Core.List.{List}
 use Prim.Native.Nat.{ℕ}

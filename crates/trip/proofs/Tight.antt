@@ -1,4 +1,5 @@
--- The bounds of a correlation are no wider than they must be: at length 1 one comes back 2^-53 above what was sent, and one a step, but for 2^-52, below it.
+-- The bounds of a correlation are no wider than they must be: at length 1 one comes back 2^-53 above what was sent,
+-- and one a step, but for 2^-52, below it.
 -- Assumes nothing.
 use mathlib.Core.Path.{_≡_, refl}
 use Prim.Native.Nat.{ℕ, _-_, _^_}

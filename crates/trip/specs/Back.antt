@@ -1,4 +1,5 @@
--- Reading back what was written, once over both forms: done, and the lists that were written as far as their formats keep them.
+-- Reading back what was written, once over both forms: done, and the lists that were written as far as their formats
+-- keep them.
 use Prim.Native.Nat.{ℕ, _≤_, _<_}
 use mathlib.Core.Path.{_≡_}
 use mathlib.Core.Bool.{Bool}
@@ -22,4 +23,5 @@ pub record Back (ds cs : List ℕ) (L : ℕ) (sparse : Bool) (bytes : List ℕ) 
   pub presence : presence bytes (headOf bytes) ≡ tab (length cs) (λ k. pick (sent sparse cs k) 1 0)
   -- where every correlation lies within -1 to 1
   pub correlations : ((k : ℕ) → k < length cs → T (inRange (ofBits binary64 (getD cs k 0))))
-      → correlations bytes (headOf bytes) ≡ tab (length cs) (λ k. pick (sent sparse cs k) (correlationKept L (getD cs k 0)) 0)
+      → correlations bytes (headOf bytes)
+      ≡ tab (length cs) (λ k. pick (sent sparse cs k) (correlationKept L (getD cs k 0)) 0)

@@ -12,7 +12,8 @@ use Rattle.imapb.specs.Mapping.{codeOf}
 use Rattle.layout.specs.declared.control.ParseControl.{ParseControl}
 use Rattle.layout.specs.Size.{matrixSize, controlOf, bodyAt, headRules}
 use Rattle.elements.specs.Elements.{part, presentIn, presentBefore, headOf, deviationsAt, codesAt, endAt}
-use Rattle.writer.specs.Pack.{element1, element2, element3, element4, element5, sent, deviationBytes, codeBytes, formBytes}
+use Rattle.writer.specs.Pack.{element1, element2, element3, element4, element5}
+use Rattle.writer.specs.Pack.{sent, deviationBytes, codeBytes, formBytes}
 
 -- the control of either form: CS; Cf=1 and Clen; Sf=0 and Slen=4
 abbrev pub controlFor : Bool → ℕ → ParseControl
@@ -35,18 +36,23 @@ module _ (ds cs : List ℕ) (L : ℕ) (sparse : Bool) where
     -- element 3: a slot is present exactly where it was sent; those before it are as many as their codes are long
     pub presence : (k : ℕ) → k < length cs → presentIn bytes (bodyAt bytes) (controlOf bytes) k ≡ sent sparse cs k
     pub counted : (k : ℕ) → k ≤ length cs
-        → presentBefore bytes (bodyAt bytes) (controlOf bytes) k * controlOf bytes .clen ≡ length (joined k (codeBytes sparse cs L))
+        → presentBefore bytes (bodyAt bytes) (controlOf bytes) k * controlOf bytes .clen
+        ≡ length (joined k (codeBytes sparse cs L))
     -- element 4: each deviation
     pub deviations : (i : ℕ) → i < length ds
-        → part bytes (deviationsAt (headOf bytes) + i * controlOf bytes .slen) (controlOf bytes .slen) ≡ deviationBytes ds i
+        → part bytes (deviationsAt (headOf bytes) + i * controlOf bytes .slen) (controlOf bytes .slen)
+        ≡ deviationBytes ds i
     -- element 5: the code of each correlation that was sent
     pub codes : (k : ℕ) → k < length cs → sent sparse cs k ≡ true
-        → part bytes (codesAt (headOf bytes) + presentBefore bytes (bodyAt bytes) (controlOf bytes) k * controlOf bytes .clen) (controlOf bytes .clen)
+        → part bytes
+        (codesAt (headOf bytes) + presentBefore bytes (bodyAt bytes) (controlOf bytes) k * controlOf bytes .clen)
+        (controlOf bytes .clen)
         ≡ bytesOf L (codeOf L (ofBits binary64 (getD cs k 0)))
     -- nothing follows
     pub whole : endAt bytes (headOf bytes) ≡ length bytes
 
   -- the five elements of a pack
   pub record Found : Type 0 where
-    pub head : HeadFound (length ds) L sparse (formBytes ds cs L sparse) (length (element1 (length ds) ++ element2 sparse L))
+    pub head : HeadFound (length ds) L sparse (formBytes ds cs L sparse)
+        (length (element1 (length ds) ++ element2 sparse L))
     pub body : BodyFound (formBytes ds cs L sparse)

@@ -17,21 +17,26 @@ pub record Outcome : Type 0 where
   pub correlations : List ℕ
   pub presence : List ℕ
 
+abbrev pub outcomeOf : Answer → List ℕ → List ℕ → List ℕ → Outcome
+outcomeOf a ds cs ps = record { answers = a; deviations = ds; correlations = cs; presence = ps }
+
 -- with room enough for any pack within the limits
 abbrev pub outcome : List ℕ → Outcome
 outcome bytes = given (readAnswer bytes maxRows maxSlots maxSlots)
   where
     given : Answer → Outcome
     given a =
-        pick (eqb (a .number) 0) (record { answers = a; deviations = deviations bytes (headOf bytes); correlations = correlations bytes (headOf bytes); presence = presence bytes (headOf bytes) })
-        (record { answers = a; deviations = []; correlations = []; presence = [] })
+        pick (eqb (a .number) 0)
+        (outcomeOf a (deviations bytes (headOf bytes)) (correlations bytes (headOf bytes))
+        (presence bytes (headOf bytes)))
+        (outcomeOf a [] [] [])
 
 -- done, with N, the deviation count and M
 abbrev pub done : ℕ → ℕ → ℕ → List ℕ → List ℕ → List ℕ → Outcome
-done n d m ds cs ps = record { answers = answer 0 (wholes (n ∷ d ∷ m ∷ [])); deviations = ds; correlations = cs; presence = ps }
+done n d m ds cs ps = outcomeOf (answer 0 (wholes (n ∷ d ∷ m ∷ []))) ds cs ps
 
 abbrev pub refused : Answer → Outcome
-refused a = record { answers = a; deviations = []; correlations = []; presence = [] }
+refused a = outcomeOf a [] [] []
 
 -- 1 and 2 as binary32, and as binary64
 abbrev D : List ℕ

@@ -54,13 +54,15 @@ module _ (ds cs : List ℕ) (L : ℕ) where
     -- deviations come back as their binary32 roundings
     pub deviations : ds′ ≡ tab (length ds) (λ i. rounding (getD ds i 0))
     -- which as numbers they are
-    pub values : (i : ℕ) → i < length ds → ofBits binary64 (getD ds′ i 0) ≡ nearest binary32 (ofBits binary64 (getD ds i 0))
+    pub values : (i : ℕ) → i < length ds
+        → ofBits binary64 (getD ds′ i 0) ≡ nearest binary32 (ofBits binary64 (getD ds i 0))
     -- as many correlations come back as were sent
     pub count : length cs′ ≡ length cs
     -- each at most 2^-53 above the one sent and less than one step below it
     pub correlations : (k : ℕ) → k < length cs → NearTo L (getD cs k 0) (getD cs′ k 0)
     -- sparse: exactly the nonzero correlations are marked present
-    pub sparse : isSparse ds cs L ≡ true → ps′ ≡ tab (length cs) (λ k. pick (eq (ofBits binary64 (getD cs k 0)) (fin false 0 (pos 0))) 0 1)
+    pub sparse : isSparse ds cs L ≡ true
+        → ps′ ≡ tab (length cs) (λ k. pick (eq (ofBits binary64 (getD cs k 0)) (fin false 0 (pos 0))) 0 1)
     -- full: all are
     pub full : isSparse ds cs L ≡ false → ps′ ≡ tab (length cs) (λ k. 1)
 
@@ -72,7 +74,8 @@ module _ (ds cs : List ℕ) (L : ℕ) where
     pub read : (d c p : ℕ) → length ds ≤ d → length cs ≤ c → length cs ≤ p
         → readAnswer (packBytes ds cs L) d c p ≡ answer 0 (wholes (length ds ∷ length ds ∷ length cs ∷ []))
     -- what was sent comes back
-    pub back : Returned (deviations (packBytes ds cs L) (headOf (packBytes ds cs L))) (correlations (packBytes ds cs L) (headOf (packBytes ds cs L)))
+    pub back : Returned (deviations (packBytes ds cs L) (headOf (packBytes ds cs L)))
+        (correlations (packBytes ds cs L) (headOf (packBytes ds cs L)))
         (presence (packBytes ds cs L) (headOf (packBytes ds cs L)))
     -- the pack is never longer than its full form
     pub never-longer : length (packBytes ds cs L) ≤ length (formBytes ds cs L false)

@@ -20,6 +20,9 @@ pub record Lent : Type 0 where
   pub correlations : List ℕ
   pub presence : List ℕ
 
+abbrev pub lentOf : List ℕ → List ℕ → List ℕ → List ℕ → Lent
+lentOf pack ds cs ps = record { pack = pack; deviations = ds; correlations = cs; presence = ps }
+
 module _ (ds cs : List ℕ) (L : ℕ) where
   -- room enough
   pub record Roomy (lent : Lent) : Type 0 where
@@ -32,7 +35,8 @@ module _ (ds cs : List ℕ) (L : ℕ) where
   abbrev pub tripAnswer : Lent → Answer
   tripAnswer lent =
       next (writeAnswer ds cs L (length (lent .pack)))
-      (readAnswer (packBytes ds cs L) (length (lent .deviations)) (length (lent .correlations)) (length (lent .presence)))
+      (readAnswer (packBytes ds cs L) (length (lent .deviations)) (length (lent .correlations))
+      (length (lent .presence)))
 
   -- what stands there afterwards
   abbrev pub leftBy : Lent → Lent
@@ -54,4 +58,6 @@ module _ (ds cs : List ℕ) (L : ℕ) where
     pub leaves : left ≡ leftBy lent
     -- demand 3: what can be sent, with room enough, is answered yes, and what stands in what was lent is what was sent
     pub demand : Sendable ds cs L → Roomy lent
-        → (r ≡ true) × Returned ds cs L (take (length ds) (left .deviations)) (take (length cs) (left .correlations)) (take (length cs) (left .presence))
+        → (r ≡ true)
+        × Returned ds cs L (take (length ds) (left .deviations)) (take (length cs) (left .correlations))
+        (take (length cs) (left .presence))

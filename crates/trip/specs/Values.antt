@@ -21,8 +21,11 @@ abbrev pub correlationKept : ℕ → ℕ → ℕ
 correlationKept L c = toBits binary64 (valueOf L (codeOf L (ofBits binary64 c)))
 
 pub record ValuesFound (ds cs : List ℕ) (L : ℕ) (sparse : Bool) (bytes : List ℕ) : Type 0 where
-  pub deviations : (i : ℕ) → i < length ds → deviationIn bytes (deviationsAt (headOf bytes)) (controlOf bytes) i ≡ deviationKept (getD ds i 0)
-  pub presence : (k : ℕ) → k < length cs → presenceIn bytes (bodyAt bytes) (controlOf bytes) k ≡ pick (sent sparse cs k) 1 0
+  pub deviations : (i : ℕ) → i < length ds
+      → deviationIn bytes (deviationsAt (headOf bytes)) (controlOf bytes) i ≡ deviationKept (getD ds i 0)
+  pub presence : (k : ℕ) → k < length cs
+      → presenceIn bytes (bodyAt bytes) (controlOf bytes) k ≡ pick (sent sparse cs k) 1 0
   -- a correlation within -1 to 1; one that was not sent reads 0.0
   pub correlations : (k : ℕ) → k < length cs → T (inRange (ofBits binary64 (getD cs k 0)))
-      → correlationIn bytes (bodyAt bytes) (codesAt (headOf bytes)) (controlOf bytes) k ≡ pick (sent sparse cs k) (correlationKept L (getD cs k 0)) 0
+      → correlationIn bytes (bodyAt bytes) (codesAt (headOf bytes)) (controlOf bytes) k
+      ≡ pick (sent sparse cs k) (correlationKept L (getD cs k 0)) 0

@@ -66,7 +66,8 @@ fn same_slot(clen: usize, sent: u64, back: u64, present: u8) -> bool
 
 // Whether each slot did.
 fn same_slots(clen: usize, sent: &[u64], back: &[u64], presence: &[u8]) -> bool
-    requires { ⌜ Supported clen × InRange (now sent) × (length (now sent) ≤ length (now back)) × (length (now sent) ≤ length (now presence)) ⌝ }
+    requires { ⌜ Supported clen × InRange (now sent) × (length (now sent) ≤ length (now back))
+        × (length (now sent) ≤ length (now presence)) ⌝ }
     ensures { λ r. ⌜ r ≡ slotsAgree clen (now (sent .entry)) (now (back .entry)) (now (presence .entry)) ⌝ }
 {
     let mut k: usize = 0;
@@ -88,8 +89,11 @@ pub(crate) fn same_numbers(
     correlations_back: &[u64],
     presence: &[u8],
 ) -> bool
-    requires { ⌜ Comparable (now deviations) (now correlations) clen (now «deviations_back») (now «correlations_back») (now presence) ⌝ }
-    ensures { λ r. ⌜ r ≡ numbersAgree (now (deviations .entry)) (now (correlations .entry)) clen (now («deviations_back» .entry)) (now («correlations_back» .entry)) (now (presence .entry)) ⌝ }
+    requires { ⌜ Comparable (now deviations) (now correlations) clen (now «deviations_back»)
+        (now «correlations_back») (now presence) ⌝ }
+    ensures { λ r. ⌜ r
+        ≡ numbersAgree (now (deviations .entry)) (now (correlations .entry)) clen (now («deviations_back» .entry))
+        (now («correlations_back» .entry)) (now (presence .entry)) ⌝ }
 {
     if !same_deviations(deviations, deviations_back) {
         return false;

@@ -4,7 +4,7 @@ use answers::Written;
 use reader::read::ReadAnswer;
 use reader::read::decode_sdcc_flp;
 use writer::write::encode_sdcc_flp_mode2;
-ghost use Rattle.trip.specs.Tripped.{Tripped};
+ghost use Rattle.trip.specs.Tripped.{lentOf, Tripped};
 
 // Whether the deviations and the correlations, written to the front of `pack` and read from there, come back.
 pub fn round_trip(
@@ -17,8 +17,10 @@ pub fn round_trip(
     presence: &mut [u8],
 ) -> bool
     ensures { λ r. ⌜ Tripped (now (deviations .entry)) (now (correlations .entry)) clen
-        (record { pack = now (pack .entry); deviations = now («deviations_back» .entry); correlations = now («correlations_back» .entry); presence = now (presence .entry) })
-        (record { pack = now (pack .exit); deviations = now («deviations_back» .exit); correlations = now («correlations_back» .exit); presence = now (presence .exit) }) r ⌝ }
+        (lentOf (now (pack .entry)) (now («deviations_back» .entry)) (now («correlations_back» .entry))
+        (now (presence .entry)))
+        (lentOf (now (pack .exit)) (now («deviations_back» .exit)) (now («correlations_back» .exit))
+        (now (presence .exit))) r ⌝ }
 {
     let written = encode_sdcc_flp_mode2(deviations, correlations, clen, pack);
     let Written::Done(n) = written else {

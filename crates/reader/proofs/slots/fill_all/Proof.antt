@@ -1,4 +1,5 @@
--- `slots::fill_all` meets its contract: each turn stores the next code's number, which is there, and that the slot is present.
+-- `slots::fill_all` meets its contract: each turn stores the next code's number, which is there, and that the slot is
+-- present.
 -- Assumes nothing.
 use mathlib.Core.Path.{_≡_, refl}
 use Prim.Native.Nat.{ℕ, _+_, _-_, _*_, _≤_}

@@ -1,4 +1,5 @@
--- `slots::fill_group` meets its contract: each turn stores an absent slot, and over it the next code's number where the slot's bit is set.
+-- `slots::fill_group` meets its contract: each turn stores an absent slot, and over it the next code's number where
+-- the slot's bit is set.
 -- Assumes nothing.
 use mathlib.Core.Logic.{⊎-elim}
 use Prim.Native.Nat.{_+_, _-_, _≤_, _<_}

@@ -1,4 +1,5 @@
--- `slots::fill_marked` meets its contract: each turn fills the slots of one byte of the Bit Vector, and the last byte may have fewer than eight.
+-- `slots::fill_marked` meets its contract: each turn fills the slots of one byte of the Bit Vector, and the last byte
+-- may have fewer than eight.
 -- Assumes nothing.
 use mathlib.Core.Path.{_≡_}
 use Prim.Native.Nat.{_+_, _-_, _*_, _/_, _%_, _≤_}

@@ -1,4 +1,5 @@
--- `slots::fill_plain` meets its contract: each turn stores whether the slot is present, and its number, whose code is there if it is.
+-- `slots::fill_plain` meets its contract: each turn stores whether the slot is present, and its number, whose code is
+-- there if it is.
 -- Assumes nothing.
 use mathlib.Core.Path.{_≡_, refl}
 use Prim.Native.Nat.{ℕ, _-_}
