@@ -15,9 +15,6 @@ use Rattle.answers.specs.Table.{Answer, wholes, pick, plains}
 use Rattle.answers.proofs.Rows.{row-lists}
 use Rattle.text.proofs.Order.{lt-or-le}
 
-pub row-number : (r : Refusal) → rowOf r .number ≡ listed r .number
-row-number r = ap (λ (a : Answer). a .number) (row-lists r)
-
 -- entries of either kind as plain numbers
 plain-wholes : (ns : List ℕ) → plains (wholes ns) ≡ ns
 plain-wholes [] = refl

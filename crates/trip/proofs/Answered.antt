@@ -17,7 +17,8 @@ use Rattle.reader.specs.Rules.{done}
 use Rattle.rules.specs.Rules.{inTurn, codesRule, overRule, ruleH, ruleI, ruleJ, ruleK, elementRules, roomRules}
 use Rattle.writer.specs.Pack.{packBytes}
 use Rattle.trip.specs.Answered.{Answered}
-use Rattle.writer.specs.Rules.{countRules, rangeRules, roomRule}
+use Rattle.plan.specs.Rules.{countRules, rangeRules}
+use Rattle.slots.specs.Rules.{roomRule}
 
 -- each element in turn, and each correlation
 turns-in : (bytes : List ℕ) (at size : ℕ) (format : Answer) → InTable format → (n : ℕ) → InTable (inTurn bytes at size format n)

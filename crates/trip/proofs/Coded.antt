@@ -15,7 +15,7 @@ use Rattle.imapb.specs.Mapping.{codeOf, valueOf, inRange}
 use Rattle.imapb.specs.Tables.{reads, imapbRead, imapbWritten}
 use Rattle.imapb.proofs.Law.{never-special}
 use Rattle.imapb.proofs.Length.{is-supported}
-use Rattle.writer.specs.Fill.{Supported}
+use Rattle.plan.specs.Rules.{Supported}
 use Rattle.trip.proofs.Values.{word-of-code}
 
 module _ (L c : ℕ) (clen : Supported L) (ranged : T (inRange (ofBits binary64 c))) where

@@ -1,11 +1,25 @@
--- Demand 1, the other half: of every public function, that the same input gives the same answer and leaves the same
--- in lent memory.
+-- Demand 1, the other half: of every public function, that the same input gives the same answer and leaves the same in
+-- lent memory.
 -- Assumes nothing.
 use mathlib.Core.List.{List}
 use Prim.Native.Nat.{ℕ}
 use denote.Ref.{now}
 use Rattle.answers.specs.OneAnswer.{OneResult, OneAnswer}
-use Rattle.trip.specs.Tripped.{Lent}
+use Rattle.trip.specs.Tripped.{Lent, lentOf}
+use Rattle.answers.proofs.OneAnswer.{row-of-one}
+use Rattle.answers.proofs.row.row_of.Reads as row-of
+use Rattle.text.proofs.OneAnswer.{within-one, within-words-one, put-byte-one, put-text-one, put-decimal-one, put-named-one, put-hex-one, put-bits-one, digit-at-one, decimal-one, hex-one}
+use Rattle.text.proofs.part.within.Reads as within
+use Rattle.text.proofs.part.within_words.Reads as within-words
+use Rattle.text.proofs.put.put_byte.Reads as put-byte
+use Rattle.text.proofs.put.put_text.Reads as put-text
+use Rattle.text.proofs.put.put_decimal.Reads as put-decimal
+use Rattle.text.proofs.put.put_named.Reads as put-named
+use Rattle.text.proofs.put.put_hex.Reads as put-hex
+use Rattle.text.proofs.put.put_bits.Reads as put-bits
+use Rattle.text.proofs.numeral.digit_at.Reads as digit-at
+use Rattle.text.proofs.numeral.decimal.Reads as decimal
+use Rattle.text.proofs.numeral.hex.Reads as hex
 use Rattle.numbers.proofs.OneAnswer.{read-be-one, ber-oid-len-one, read-ber-oid-one, write-be-one, write-ber-oid-one, nearest-binary64-one, binary64-to-binary32-one, binary32-to-binary64-one, whole-part-one}
 use Rattle.numbers.proofs.words.read_be.Reads as read-be
 use Rattle.numbers.proofs.ber_oid.ber_oid_len.Reads as ber-oid-len
@@ -20,10 +34,10 @@ use Rattle.imapb.proofs.OneAnswer.{decode-imapb-one, check-range-one, imapb-cod
 use Rattle.imapb.proofs.decode.decode_imapb.Reads as decode-imapb
 use Rattle.imapb.proofs.encode.check_range.Reads as check-range
 use Rattle.imapb.proofs.encode.imapb_code.Reads as imapb-code
-use Rattle.imapb.proofs.encode.encode_imapb.Reads as encode-imapb
 use Rattle.imapb.proofs.mapping.imapb_mapping.Reads as imapb-mapping
+use Rattle.imapb.proofs.encode.encode_imapb.Reads as encode-imapb
 use Rattle.imapb.proofs.special.encode_imapb_special.Reads as encode-imapb-special
-use Rattle.layout.proofs.OneAnswer.{parse-mode1-one, parse-mode2-one, read-header-one, check-matrix-size-fits-one, peek-matrix-size-one, corr-slots-one, triangle-slot-one}
+use Rattle.layout.proofs.OneAnswer.{parse-mode1-one, parse-mode2-one, read-header-one, check-matrix-size-fits-one, peek-matrix-size-one, corr-slots-one, triangle-slot-one, bounded-slots-one}
 use Rattle.layout.proofs.control.parse_mode1.Reads as parse-mode1
 use Rattle.layout.proofs.control.parse_mode2.Reads as parse-mode2
 use Rattle.layout.proofs.header.read_header.Reads as read-header
@@ -31,8 +45,28 @@ use Rattle.layout.proofs.size.check_matrix_size_fits.Reads as check-matrix-size
 use Rattle.layout.proofs.size.peek_matrix_size.Reads as peek-matrix-size
 use Rattle.layout.proofs.triangle.corr_slots.Reads as corr-slots
 use Rattle.layout.proofs.triangle.triangle_slot.Reads as triangle-slot
+use Rattle.layout.proofs.pack.bounded_slots.Reads as bounded-slots
+use Rattle.elements.proofs.OneAnswer.{open-pack-one, deviation-count-one, pack-of-one, left-one, check-number-one, deviation-at-one, correlation-at-one, slot-at-one, presence-of-one, present-count-one}
+use Rattle.elements.proofs.head.open_pack.Reads as open-pack
+use Rattle.elements.proofs.head.deviation_count.Reads as deviation-count
+use Rattle.elements.proofs.head.pack_of.Reads as pack-of
+use Rattle.elements.proofs.number.left.Reads as left
+use Rattle.elements.proofs.number.check_number.Reads as check-number
+use Rattle.elements.proofs.number.deviation_at.Reads as deviation-at
+use Rattle.elements.proofs.number.correlation_at.Reads as correlation-at
+use Rattle.elements.proofs.number.slot_at.Reads as slot-at
+use Rattle.elements.proofs.present.presence_of.Reads as presence-of
+use Rattle.elements.proofs.present.present_count.Reads as present-count
+use Rattle.rules.proofs.OneAnswer.{decide-one, check-rooms-one}
+use Rattle.rules.proofs.decide.decide.Reads as decide
+use Rattle.rules.proofs.rooms.check_rooms.Reads as check-rooms
 use Rattle.reader.proofs.OneAnswer.{decode-sdcc-flp-one}
 use Rattle.reader.proofs.read.decode_sdcc_flp.Reads as decode-sdcc-flp
+use Rattle.plan.proofs.OneAnswer.{plan-pack-one, zero-of-one}
+use Rattle.plan.proofs.pack.plan_pack.Reads as plan-pack
+use Rattle.plan.proofs.zero.zero_of.Reads as zero-of
+use Rattle.slots.proofs.OneAnswer.{write-slots-one}
+use Rattle.slots.proofs.write.write_slots.Reads as write-slots
 use Rattle.writer.proofs.OneAnswer.{encode-sdcc-flp-mode2-one, encode-sdcc-flp-one}
 use Rattle.writer.proofs.write.encode_sdcc_flp_mode2.Reads as encode-sdcc-flp-mode2
 use Rattle.writer.proofs.write.encode_sdcc_flp.Reads as encode-sdcc-flp
@@ -45,6 +79,20 @@ use Rattle.trip.proofs.OneAnswer.{round-trip-one}
 use Rattle.trip.proofs.round_trip.round_trip.Reads as round-trip
 
 pub record Determined : Type 0 where
+  -- the table
+  pub row-of-determined : OneResult row-of.Learnt
+  -- text
+  pub within-determined : OneResult within.Learnt
+  pub within-words-determined : OneResult within-words.Learnt
+  pub put-byte-determined : OneAnswer put-byte.Learnt (λ κs s. now (s .1 .1 .0))
+  pub put-text-determined : OneAnswer put-text.Learnt (λ κs s. now (s .1 .1 .0))
+  pub put-decimal-determined : OneAnswer put-decimal.Learnt (λ κs s. now (s .1 .1 .0))
+  pub put-named-determined : OneAnswer put-named.Learnt (λ κs s. now (s .1 .1 .1 .0))
+  pub put-hex-determined : OneAnswer put-hex.Learnt (λ κs s. now (s .1 .1 .1 .0))
+  pub put-bits-determined : OneAnswer put-bits.Learnt (λ κs s. now (s .1 .1 .0))
+  pub digit-at-determined : OneResult digit-at.Learnt
+  pub decimal-determined : OneResult decimal.Learnt
+  pub hex-determined : OneResult hex.Learnt
   -- numbers
   pub read-be-determined : OneResult read-be.Learnt
   pub ber-oid-len-determined : OneResult ber-oid-len.Learnt
@@ -70,9 +118,27 @@ pub record Determined : Type 0 where
   pub peek-matrix-size-determined : OneResult peek-matrix-size.Learnt
   pub corr-slots-determined : OneResult corr-slots.Learnt
   pub triangle-slot-determined : OneResult triangle-slot.Learnt
+  pub bounded-slots-determined : OneResult bounded-slots.Learnt
+  -- the elements of a pack
+  pub open-pack-determined : OneResult open-pack.Learnt
+  pub deviation-count-determined : OneResult deviation-count.Learnt
+  pub pack-of-determined : OneResult pack-of.Learnt
+  pub left-determined : OneResult left.Learnt
+  pub check-number-determined : OneResult check-number.Learnt
+  pub deviation-at-determined : OneResult deviation-at.Learnt
+  pub correlation-at-determined : OneResult correlation-at.Learnt
+  pub slot-at-determined : OneResult slot-at.Learnt
+  pub presence-of-determined : OneResult presence-of.Learnt
+  pub present-count-determined : OneResult present-count.Learnt
+  -- the rules
+  pub decide-determined : OneResult decide.Learnt
+  pub check-rooms-determined : OneResult check-rooms.Learnt
   -- the reader
   pub decode-sdcc-flp-determined : OneAnswer {L = List ℕ × List ℕ × List ℕ} decode-sdcc-flp.Learnt (λ κs s. (now (s .1 .0), now (s .1 .1 .0), now (s .1 .1 .1 .0)))
   -- the writer
+  pub plan-pack-determined : OneResult plan-pack.Learnt
+  pub zero-of-determined : OneResult zero-of.Learnt
+  pub write-slots-determined : OneAnswer write-slots.Learnt (λ κs s. now (s .1 .1 .1 .0))
   pub encode-sdcc-flp-mode2-determined : OneAnswer encode-sdcc-flp-mode2.Learnt (λ κs s. now (s .1 .1 .1 .0))
   pub encode-sdcc-flp-determined : OneAnswer encode-sdcc-flp.Learnt (λ κs s. now (s .1 .1 .0))
   -- lookup and usable
@@ -81,11 +147,23 @@ pub record Determined : Type 0 where
   -- what the program prints
   pub print-pack-determined : OneAnswer print-pack.Learnt (λ κs s. now (s .1 .0))
   -- written, read and compared
-  pub round-trip-determined : OneAnswer {L = Lent} round-trip.Learnt (λ κs s. record { pack = now (s .1 .1 .1 .0); deviations = now (s .1 .1 .1 .1 .0); correlations = now (s .1 .1 .1 .1 .1 .0); presence = now (s .1 .1 .1 .1 .1 .1 .0) })
+  pub round-trip-determined : OneAnswer {L = Lent} round-trip.Learnt (λ κs s. lentOf (now (s .1 .1 .1 .0)) (now (s .1 .1 .1 .1 .0)) (now (s .1 .1 .1 .1 .1 .0)) (now (s .1 .1 .1 .1 .1 .1 .0)))
 
 pub determined : Determined
 determined =
     record {
+      row-of-determined = row-of-one;
+      within-determined = within-one;
+      within-words-determined = within-words-one;
+      put-byte-determined = put-byte-one;
+      put-text-determined = put-text-one;
+      put-decimal-determined = put-decimal-one;
+      put-named-determined = put-named-one;
+      put-hex-determined = put-hex-one;
+      put-bits-determined = put-bits-one;
+      digit-at-determined = digit-at-one;
+      decimal-determined = decimal-one;
+      hex-determined = hex-one;
       read-be-determined = read-be-one;
       ber-oid-len-determined = ber-oid-len-one;
       read-ber-oid-determined = read-ber-oid-one;
@@ -108,7 +186,23 @@ determined =
       peek-matrix-size-determined = peek-matrix-size-one;
       corr-slots-determined = corr-slots-one;
       triangle-slot-determined = triangle-slot-one;
+      bounded-slots-determined = bounded-slots-one;
+      open-pack-determined = open-pack-one;
+      deviation-count-determined = deviation-count-one;
+      pack-of-determined = pack-of-one;
+      left-determined = left-one;
+      check-number-determined = check-number-one;
+      deviation-at-determined = deviation-at-one;
+      correlation-at-determined = correlation-at-one;
+      slot-at-determined = slot-at-one;
+      presence-of-determined = presence-of-one;
+      present-count-determined = present-count-one;
+      decide-determined = decide-one;
+      check-rooms-determined = check-rooms-one;
       decode-sdcc-flp-determined = decode-sdcc-flp-one;
+      plan-pack-determined = plan-pack-one;
+      zero-of-determined = zero-of-one;
+      write-slots-determined = write-slots-one;
       encode-sdcc-flp-mode2-determined = encode-sdcc-flp-mode2-one;
       encode-sdcc-flp-determined = encode-sdcc-flp-one;
       correlation-determined = correlation-one;

@@ -18,7 +18,8 @@ use Rattle.imapb.specs.Mapping.{codeOf}
 use Rattle.layout.specs.Size.{maxRows, controlOf, bodyAt}
 use Rattle.layout.specs.Triangle.{slotsOf}
 use Rattle.elements.specs.Elements.{part, presentBefore, headOf, deviationsAt, codesAt}
-use Rattle.writer.specs.Pack.{element1, element2, element3, element4, element5, vectorByte, deviationBytes, codeBytes, formBytes}
+use Rattle.slots.specs.Slots.{element3, element5, vectorByte, codeBytes}
+use Rattle.writer.specs.Pack.{element1, element2, element4, deviationBytes, formBytes}
 use Rattle.trip.specs.Found.{HeadFound, BodyFound, Found, behind}
 use Rattle.trip.proofs.Vector.{present-found, counted-found}
 use Rattle.trip.proofs.Head.{head-found}

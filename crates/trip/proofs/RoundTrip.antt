@@ -24,9 +24,12 @@ use Rattle.imapb.proofs.Near.{near}
 use Rattle.layout.specs.Size.{maxRows}
 use Rattle.layout.specs.Triangle.{slotsOf}
 use Rattle.elements.specs.Elements.{headOf, deviations, correlations, presence}
-use Rattle.writer.specs.Pack.{isZero, sent, isSparse, packBytes}
-use Rattle.writer.specs.Rules.{countRules, rangeRules, writeAnswer}
-use Rattle.writer.proofs.EqualZero.{zero-is}
+use Rattle.plan.specs.Zero.{isZero}
+use Rattle.slots.specs.Slots.{sent}
+use Rattle.writer.specs.Pack.{isSparse, packBytes}
+use Rattle.plan.specs.Rules.{countRules, rangeRules}
+use Rattle.writer.specs.Rules.{writeAnswer}
+use Rattle.plan.proofs.EqualZero.{zero-is}
 use Rattle.writer.proofs.Lengths.{never-longer}
 use Rattle.writer.proofs.Whole.{all-pass}
 use Rattle.trip.specs.Values.{correlationKept}

@@ -17,7 +17,9 @@ use Rattle.answers.proofs.Lent.{refused-leaves, length-tab, getD-tab}
 use Rattle.answers.proofs.Next.{next-passed}
 use Rattle.elements.specs.Elements.{headOf, deviations, correlations, presence}
 use Rattle.reader.specs.Rules.{readAnswer}
-use Rattle.writer.specs.Pack.{isZero, sent, isSparse, packBytes}
+use Rattle.plan.specs.Zero.{isZero}
+use Rattle.slots.specs.Slots.{sent}
+use Rattle.writer.specs.Pack.{isSparse, packBytes}
 use Rattle.writer.specs.Rules.{writeAnswer}
 use Rattle.trip.specs.Values.{deviationKept, correlationKept}
 use Rattle.trip.specs.Back.{Back}

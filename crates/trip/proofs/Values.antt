@@ -20,7 +20,7 @@ use Rattle.numbers.proofs.Exact.{nearest-fits}
 use Rattle.imapb.specs.Mapping.{codeOf, inRange}
 use Rattle.imapb.proofs.Law.{code-le-top, never-special}
 use Rattle.elements.specs.Elements.{codeBits}
-use Rattle.writer.specs.Pack.{sent}
+use Rattle.slots.specs.Slots.{sent}
 use Rattle.trip.specs.Found.{controlFor, HeadFound, BodyFound}
 use Rattle.trip.specs.Values.{correlationKept, ValuesFound}
 

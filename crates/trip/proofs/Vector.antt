@@ -20,7 +20,7 @@ use Rattle.numbers.proofs.Digits.{spelt-append}
 use Rattle.numbers.proofs.Bytes.{length-bytes}
 use Rattle.elements.specs.Elements.{vectorBit, presentIn, presentBefore}
 use Rattle.elements.proofs.Vector.{present-more, present-le}
-use Rattle.writer.specs.Pack.{sent, vectorByte, element3, codeBytes}
+use Rattle.slots.specs.Slots.{sent, vectorByte, element3, codeBytes}
 use Rattle.trip.specs.Found.{controlFor}
 
 -- digit j of the digits of f, with d behind it

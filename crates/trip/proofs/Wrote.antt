@@ -11,11 +11,13 @@ use Rattle.answers.specs.Table.{Answer, answer, wholes, next}
 use Rattle.answers.specs.Lent.{leaves}
 use Rattle.answers.proofs.Next.{next-zero, next-passed, Says, rules}
 use Rattle.layout.specs.Triangle.{slotsOf}
-use Rattle.writer.specs.Fill.{InRange, Supported}
+use Rattle.plan.specs.Rules.{InRange, Supported}
 use Rattle.writer.specs.Pack.{isSparse, packBytes}
-use Rattle.writer.specs.Rules.{countRules, rangeRules, roomRule, writeAnswer}
-use Rattle.writer.proofs.Checked.{all-in}
-use Rattle.writer.proofs.Whole.{Counts, counts-tell}
+use Rattle.plan.specs.Rules.{countRules, rangeRules}
+use Rattle.slots.specs.Rules.{roomRule}
+use Rattle.writer.specs.Rules.{writeAnswer}
+use Rattle.plan.proofs.Counts.{all-in}
+use Rattle.plan.proofs.Counts.{Counts, counts-tell}
 use Rattle.trip.specs.Back.{Back}
 use Rattle.trip.proofs.Back.{back}
 use Rattle.trip.proofs.Stood.{done-front}

@@ -12,7 +12,7 @@ use Rattle.answers.specs.Lent.{tab}
 use Rattle.imapb.specs.Mapping.{inRange}
 use Rattle.elements.specs.Elements.{headOf, deviations, correlations, presence}
 use Rattle.reader.specs.Rules.{readAnswer}
-use Rattle.writer.specs.Pack.{sent}
+use Rattle.slots.specs.Slots.{sent}
 use Rattle.trip.specs.Values.{deviationKept, correlationKept}
 
 pub record Back (ds cs : List ℕ) (L : ℕ) (sparse : Bool) (bytes : List ℕ) : Type 0 where

@@ -5,8 +5,8 @@ use mathlib.Core.List.{List}
 use lib.Dec.{eqb}
 use lib.ListN.{length, getD}
 use Rattle.answers.specs.Table.{pick}
-use Rattle.writer.specs.Fill.{InRange, Supported}
-use Rattle.writer.specs.Pack.{isZero}
+use Rattle.plan.specs.Rules.{InRange, Supported}
+use Rattle.plan.specs.Zero.{isZero}
 use Rattle.trip.specs.Values.{deviationKept, correlationKept}
 
 -- whether the test holds of each of 0 to n-1

@@ -12,8 +12,10 @@ use Rattle.imapb.specs.Mapping.{codeOf}
 use Rattle.layout.specs.declared.control.ParseControl.{ParseControl}
 use Rattle.layout.specs.Size.{matrixSize, controlOf, bodyAt, headRules}
 use Rattle.elements.specs.Elements.{part, presentIn, presentBefore, headOf, deviationsAt, codesAt, endAt}
-use Rattle.writer.specs.Pack.{element1, element2, element3, element4, element5}
-use Rattle.writer.specs.Pack.{sent, deviationBytes, codeBytes, formBytes}
+use Rattle.slots.specs.Slots.{element3, element5}
+use Rattle.writer.specs.Pack.{element1, element2, element4}
+use Rattle.slots.specs.Slots.{sent, codeBytes}
+use Rattle.writer.specs.Pack.{deviationBytes, formBytes}
 
 -- the control of either form: CS; Cf=1 and Clen; Sf=0 and Slen=4
 abbrev pub controlFor : Bool → ℕ → ParseControl

@@ -11,7 +11,7 @@ use Rattle.numbers.specs.Conversions.{converted}
 use Rattle.imapb.specs.Mapping.{codeOf, valueOf, inRange}
 use Rattle.layout.specs.Size.{controlOf, bodyAt}
 use Rattle.elements.specs.Elements.{headOf, deviationsAt, codesAt, deviationIn, correlationIn, presenceIn}
-use Rattle.writer.specs.Pack.{sent}
+use Rattle.slots.specs.Slots.{sent}
 
 -- a deviation that went through a binary32, and a correlation that went through its code
 abbrev pub deviationKept : ℕ → ℕ

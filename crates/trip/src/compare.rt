@@ -12,7 +12,7 @@ ghost use lib.Dec.{T};
 ghost use lib.ListN.{length};
 ghost use lib.Ieee.{binary64, ofBits};
 ghost use Rattle.imapb.specs.Mapping.{inRange};
-ghost use Rattle.writer.specs.Fill.{InRange, Supported};
+ghost use Rattle.plan.specs.Rules.{InRange, Supported};
 ghost use Rattle.trip.specs.Values.{correlationKept};
 ghost use Rattle.trip.specs.Compared.{slotAgrees, deviationsAgree, slotsAgree, numbersAgree, Comparable};
 

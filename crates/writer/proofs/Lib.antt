@@ -1,16 +1,5 @@
-pub mod AllSlots
-pub mod Checked
-pub mod Coded
-pub mod EqualZero
 pub mod Head
 pub mod Lengths
 pub mod OneAnswer
 pub mod Packed
-pub mod Places
-pub mod Raised
-pub mod Runs
-pub mod SentWords
-pub mod Sparse
-pub mod Spill
 pub mod Whole
-pub mod Words

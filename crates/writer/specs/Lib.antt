@@ -1,4 +1,2 @@
 pub mod Pack
 pub mod Rules
-pub mod Listed
-pub mod Fill

@@ -2,7 +2,7 @@
 -- Assumes nothing.
 use borrow.Author.Needs.{needs}
 use Rattle.text.proofs.Pieces.{put-then}
-use Rattle.report.proofs.Numbers.{row-number, row-values}
+use Rattle.report.proofs.Numbers.{row-values}
 use Rattle.report.proofs.refusal.put_refusal.Statement.{statement}
 use Rattle.report.proofs.refusal.put_refusal.Tie as tie
 
@@ -14,8 +14,8 @@ returns c =
     let t = u .before .before .before in
     let s = t .before .before .before in
     let r = s .before .before .args .refusal in
-    rw (← (row-number r), ← (row-values r), ← (s .row-of .ensures), ← (t .within-words .ensures .1))
-    (put-then (put-then (u .put-named .ensures) (v .put-numbers .ensures)) (w .put-byte .ensures))
+    rw (t .within-words .ensures .1, s .row-of .ensures, row-values r)
+    at (put-then (put-then (u .put-named .ensures) (v .put-numbers .ensures)) (w .put-byte .ensures))
 
 pub put-refusal-spec : {M : Type 1} → statement M
 put-refusal-spec =

@@ -1,4 +1,5 @@
--- `elements::write_deviations` meets its contract: each turn writes the next deviation's four bytes behind those before it.
+-- `elements::write_deviations` meets its contract: each turn writes the next deviation's four bytes behind those before
+-- it.
 -- Assumes nothing.
 use Prim.Native.Nat.{_+_, _-_, _≤_}
 use native.Mathlib.Omega.{arith}
@@ -8,7 +9,7 @@ use Rattle.answers.proofs.Runs.{Run, run-none, run-room, run-more, run-done}
 use Rattle.numbers.proofs.Bytes.{length-bytes}
 use Rattle.writer.specs.Pack.{deviationBytes}
 use Rattle.writer.proofs.Lengths.{length-4}
-use Rattle.writer.proofs.Runs.{part-written}
+use Rattle.slots.proofs.Runs.{part-written}
 use Rattle.writer.proofs.elements.write_deviations.Statement.{statement}
 use Rattle.writer.proofs.elements.write_deviations.Tie as tie
 

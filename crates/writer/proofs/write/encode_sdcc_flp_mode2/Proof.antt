@@ -1,125 +1,115 @@
--- `write::encode_sdcc_flp_mode2` meets its contract: the rules in their order, and then the pack.
+-- `write::encode_sdcc_flp_mode2` meets its contract: a refusal that leaves all as it was, or the slots and the others.
 -- Assumes nothing.
-use mathlib.Core.Path.{_≡_, refl, sym, ap, _∙_}
+use mathlib.Core.Path.{_≡_, sym, ap, _∙_}
+use mathlib.Core.List.{List}
 use Prim.Native.Nat.{ℕ}
-use native.Mathlib.Omega.{arith}
-use lib.ListN.{length}
-use Rattle.answers.specs.Table.{Answer}
-use Rattle.answers.specs.Listed.{checked}
-use Rattle.answers.proofs.Lent.{refused-leaves}
-use Rattle.writer.specs.declared.plan.Plan.{Plan}
-use Rattle.writer.specs.Fill.{planOf}
-use Rattle.writer.specs.Pack.{zerosBefore, packBytes}
-use Rattle.writer.specs.Rules.{countRules, rangeRules}
-use Rattle.writer.proofs.Checked.{zeros-le, all-in}
-use Rattle.writer.proofs.Packed.{plan-end, planned}
-use Rattle.writer.proofs.Whole.{Counts, counts-tell, count-refused, count-zeros, counts-stop, range-stop, room-stop, all-pass}
 use borrow.Author.Needs.{needs}
+use lib.ListN.{length}
+use lib.Seq.{length-sets}
+use Rattle.answers.specs.Table.{Answer}
+use Rattle.answers.proofs.OneToOne.{refused-not-done}
+use Rattle.plan.specs.declared.places.Plan.{Plan}
+use Rattle.plan.specs.Listed.{Outcome, found, planListed}
+use Rattle.plan.specs.Places.{packPlan}
+use Rattle.plan.proofs.Counts.{both-pass}
+use Rattle.plan.proofs.Outcome.{found-tells, refused-tells}
+use Rattle.slots.specs.Listed.{slotsLeft, slotsOver}
+use Rattle.slots.specs.Rules.{slotsRules}
+use Rattle.writer.proofs.Packed.{plan-end, others-room, packed}
+use Rattle.writer.proofs.Whole.{slots-stop, slots-pass, all-pass}
 use Rattle.writer.proofs.write.encode_sdcc_flp_mode2.Statement.{statement}
 use Rattle.writer.proofs.write.encode_sdcc_flp_mode2.Tie as tie
 
-check-counts-requires : tie.Need-check-counts-requires
-check-counts-requires c κs = search needs
+-- what is sent
+abbrev ds : tie.Start → List ℕ
+ds s = s .args .deviations .now
 
-enum-known-counts : tie.Need-enum-known-counts
-enum-known-counts c = search needs
+abbrev cs : tie.Start → List ℕ
+cs s = s .args .correlations .now
 
-returns : tie.Need-returns
-returns c =
-    let a = c .before .before .before .before .before .before .before .args in
-    let h = c .before .counts .given in
-    let e = c .before .before .before .check-counts .ensures in
-    (counts-stop (a .deviations .now) (a .correlations .now) (a .clen) (length (a .out .now)) e (h .1), sym (refused-leaves (h .0 .0) (packBytes (a .deviations .now) (a .correlations .now) (a .clen)) (a .out .now)))
+abbrev clen : tie.Start → ℕ
+clen s = s .args .clen
 
-enum-told : tie.Need-enum-told
-enum-told c = search needs
+abbrev out : tie.Start → List ℕ
+out s = s .args .out .now
 
--- what the counts tell where they pass
-counted-well : (c : tie.After-enum-told) → let a = c .before .before .before .before .before .before .args in countRules (length (a .deviations .now)) (length (a .correlations .now)) (a .clen) .number ≡ 0
-counted-well c = ap (λ (x : Answer). x .number) (sym (c .before .before .check-counts .ensures) ∙ ap checked (c .enum-told .given .1))
+-- the rules that the slots go by, and the plan
+abbrev rules : tie.Start → Answer
+rules s = slotsRules (length (ds s)) (cs s) (clen s) (length (out s))
 
-check-correlations-requires : tie.Need-check-correlations-requires
-check-correlations-requires c κs = search needs
+abbrev plan : tie.Start → Plan
+plan s = packPlan (length (ds s)) (cs s) (clen s)
 
-enum-known-counted : tie.Need-enum-known-counted
-enum-known-counted c = search needs
+write-slots-requires : tie.Need-write-slots-requires
+write-slots-requires c κs = search needs
 
-enum-known-counted-2 : tie.Need-enum-known-counted-2
-enum-known-counted-2 c = search needs
+enum-known-slots : tie.Need-enum-known-slots
+enum-known-slots c = search needs
 
-returns-2 : tie.Need-returns-2
-returns-2 c =
-    let a = c .before .before .before .before .before .before .before .before .before .before .args in
-    let h = c .before .counted2 .given in
-    let e = count-refused (a .correlations .now) (c .before .before .before .check-correlations .ensures) (h .1) in
-    (range-stop (a .deviations .now) (a .correlations .now) (a .clen) (length (a .out .now)) (counted-well (c .before .before .before .before)) (h .0 .0) e, sym (refused-leaves (h .0 .0) (packBytes (a .deviations .now) (a .correlations .now) (a .clen)) (a .out .now)))
-
--- and the one pass: the zeros, and that every correlation lies within
-zeros-are : (c : tie.After-known-told2) → let a = c .before .before .before .before .before .before .before .before .before .before .args in (rangeRules (a .correlations .now) .number ≡ 0) × (c .before .counted .given .0 .0 ≡ zerosBefore (a .correlations .now) (length (a .correlations .now)))
-zeros-are c = count-zeros (c .before .before .before .before .before .before .before .before .before .before .args .correlations .now) (c .before .before .before .check-correlations .ensures) (c .before .counted .given .1)
-
-tells : (c : tie.After-known-told2) → let a = c .before .before .before .before .before .before .before .before .before .before .args in Counts (length (a .deviations .now)) (length (a .correlations .now)) (a .clen)
-tells c =
-    let a = c .before .before .before .before .before .before .before .before .before .before .args in
-    counts-tell (length (a .deviations .now)) (length (a .correlations .now)) (a .clen) .done (counted-well (c .before .before .before .before))
-
-plan-of-requires : tie.Need-plan-of-requires
-plan-of-requires c κs =
-    let a = c .before .before .before .before .before .before .before .before .before .before .args in
-    let t = tells c in
-    (t .rows, t .slots, rw (zeros-are c .1) (zeros-le (a .correlations .now) (length (a .correlations .now))), t .clen .1)
-
--- the plan is that of these numbers, and its end the pack's length
-plan-is : (c : tie.After-plan-of) → let a = c .before .before .before .before .before .before .before .before .before .before .before .args in
-    c .plan-of .result ≡ planOf (length (a .deviations .now)) (length (a .correlations .now)) (zerosBefore (a .correlations .now) (length (a .correlations .now))) (a .clen)
-plan-is c = let a = c .before .before .before .before .before .before .before .before .before .before .before .args in c .plan-of .ensures ∙ ap (λ (z : ℕ). planOf (length (a .deviations .now)) (length (a .correlations .now)) z (a .clen)) (zeros-are (c .before) .1)
-
-end-is : (c : tie.After-plan-of) → let a = c .before .before .before .before .before .before .before .before .before .before .before .args in c .plan-of .result .end ≡ length (packBytes (a .deviations .now) (a .correlations .now) (a .clen))
-end-is c =
-    let a = c .before .before .before .before .before .before .before .before .before .before .before .args in
-    let t = tells (c .before) in
-    ap (λ (p : Plan). p .end) (plan-is c)
-    ∙ plan-end (a .deviations .now) (a .correlations .now) (a .clen) (length (a .out .now)) (t .rows) (t .slots) (t .clen) (all-in (a .correlations .now) (zeros-are (c .before) .0))
-
-returns-3 : tie.Need-returns-3
-returns-3 c =
-    let a = c .before .before .before .before .before .before .before .before .before .before .before .before .before .args in
-    let e = end-is (c .before .before) in
-    (rw e (room-stop (a .deviations .now) (a .correlations .now) (a .clen) (length (a .out .now)) (counted-well (c .before .before .before .before .before .before .before)) (zeros-are (c .before .before .before) .0) (omega (arith, e))), refl)
-
-write-pack-requires : tie.Need-write-pack-requires
-write-pack-requires c κs =
-    let a = c .before .before .before .before .before .before .before .before .before .before .before .before .before .before .args in
-    let t = tells (c .before .before .before .before) in
-    rw (plan-is (c .before .before .before))
-    (planned (a .deviations .now) (a .correlations .now) (a .clen) (length (a .out .now)) (t .rows) (t .slots) (t .clen) (all-in (a .correlations .now) (zeros-are (c .before .before .before .before) .0))
-    (omega (arith, end-is (c .before .before .before))))
+enum-known-slots-2 : tie.Need-enum-known-slots-2
+enum-known-slots-2 c = search needs
 
 same-length : tie.Need-same-length
 same-length c = search needs
 
-returns-4 : tie.Need-returns-4
-returns-4 c =
-    let a = c .before .before .before .before .before .before .before .before .before .before .before .before .before .before .before .before .before .args in
-    let e = end-is (c .before .before .before .before .before .before) in (
-      rw e (all-pass (a .deviations .now) (a .correlations .now) (a .clen) (length (a .out .now)) (counted-well (c .before .before .before .before .before .before .before .before .before .before .before)) (zeros-are (c .before .before .before .before .before .before .before) .0) (omega (arith, e))),
-      rw (plan-is (c .before .before .before .before .before .before)) at (c .before .before .write-pack .ensures),
+returns : tie.Need-returns
+returns c =
+    let h = c .before .slots2 .given in
+    let p = c .before .before .before .before .before in
+    let s = p .before .before .before .before .before in
+    let q = ap planListed (h .1) in
+    let e = refused-tells (rules s) (plan s) (sym q ∙ p .write-slots .ensures .0) in (
+      slots-stop (ds s) (cs s) (clen s) (length (out s)) (h .0 .0) e,
+      rw (refused-not-done (h .0 .0)) (p .write-slots .ensures .1 ∙ ap (λ (o : Outcome Plan). slotsLeft o (cs s) (out s)) q),
+    )
+
+-- where there is a plan, no rule refuses, it is that of what is sent, and the slots are written by it
+told : (c : tie.After-known-told) → let s = c .before .before .before .before .before .before .before .before .before .before in
+    (rules s .number ≡ 0) × (c .before .slots .given .0 .0 ≡ plan s)
+told c =
+    let p = c .before .before .before .before .before in
+    let s = p .before .before .before .before .before in
+    found-tells (rules s) (plan s) (sym (ap planListed (c .before .slots .given .1)) ∙ p .write-slots .ensures .0)
+
+left : (c : tie.After-known-told)
+    → let p = c .before .before .before .before .before in let s = p .before .before .before .before .before in
+    p .write-slots .last .1 .1 .1 .0 ≡ slotsOver (cs s) (plan s) (out s)
+left c =
+    let p = c .before .before .before .before .before in
+    let s = p .before .before .before .before .before in
+    p .write-slots .ensures .1 ∙ ap (λ (o : Outcome Plan). slotsLeft o (cs s) (out s)) (ap planListed (c .before .slots .given .1) ∙ ap found (told c .1))
+
+write-others-requires : tie.Need-write-others-requires
+write-others-requires c κs =
+    let k = c .before in
+    let s = k .before .before .before .before .before .before .before .before .before .before in
+    let t = slots-pass (ds s) (cs s) (clen s) (length (out s)) (told k .0) in
+    rw (told k .1, left k, length-sets, length-sets) (others-room (ds s) (cs s) (clen s) (t .0) (length (out s)) (t .1))
+
+same-length-2 : tie.Need-same-length-2
+same-length-2 c = search needs
+
+returns-2 : tie.Need-returns-2
+returns-2 c =
+    let w = c .before .before in
+    let k = w .before .before in
+    let s = k .before .before .before .before .before .before .before .before .before .before in
+    let t = slots-pass (ds s) (cs s) (clen s) (length (out s)) (told k .0) in
+    let b = both-pass (length (ds s)) (cs s) (clen s) (t .0) in
+    let e = plan-end (ds s) (cs s) (clen s) (t .0) in (
+      rw (told k .1, e) (all-pass (ds s) (cs s) (clen s) (length (out s)) (b .0) (b .1) (rw e at (t .1))),
+      w .write-others .ensures ∙ rw (told k .1, left k) (packed (ds s) (cs s) (clen s) (t .0) (out s) (t .1)),
     )
 
 pub encode-sdcc-flp-mode2-spec : {M : Type 1} → statement M
 encode-sdcc-flp-mode2-spec =
     tie.close
     (tie.spec
-    check-counts-requires
-    enum-known-counts
-    returns
-    enum-told
-    check-correlations-requires
-    enum-known-counted
-    enum-known-counted-2
-    returns-2
-    plan-of-requires
-    returns-3
-    write-pack-requires
+    write-slots-requires
+    enum-known-slots
+    enum-known-slots-2
     same-length
-    returns-4)
+    returns
+    write-others-requires
+    same-length-2
+    returns-2)

@@ -1,0 +1,8 @@
+pub mod Bounds
+pub mod Checked
+pub mod Counts
+pub mod EqualZero
+pub mod OneAnswer
+pub mod Ordered
+pub mod Outcome
+pub mod Raised

@@ -1,0 +1,5 @@
+pub mod Zero
+pub mod Rules
+pub mod Places
+pub mod Listed
+pub mod Tally

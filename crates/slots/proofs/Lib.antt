@@ -1,0 +1,10 @@
+pub mod AllSlots
+pub mod Coded
+pub mod Lengths
+pub mod OneAnswer
+pub mod Ordered
+pub mod Runs
+pub mod SentWords
+pub mod Sparse
+pub mod Spill
+pub mod Words

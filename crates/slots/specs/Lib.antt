@@ -1,0 +1,4 @@
+pub mod Slots
+pub mod Rules
+pub mod Listed
+pub mod Fill
