@@ -32,7 +32,7 @@ use Rattle.rules.specs.Rules.{elementRules, roomRules}
 use Rattle.reader.specs.declared.read.ReadAnswer.{ReadAnswer}
 use Rattle.reader.specs.declared.read.ReadAnswer.the-variants.{Done, Refused}
 use Rattle.reader.proofs.Whole.{Meets}
-use Rattle.report.specs.Lines.{refusedLine, packLines}
+use Rattle.report.specs.Lines.{refusedLine, Held, heldLines}
 use Rattle.report.specs.Printed.{maxBytes, maxRows, maxSlots, room, isLarge, isTooBig, answerLines, readLines, printed, printAnswer}
 use Rattle.report.proofs.Fits.{most-slots, pack-fits, few-read, refused-fits}
 
@@ -157,10 +157,10 @@ module _ {bytes : List ℕ} {r : ReadAnswer} {ds cs ps : List ℕ} (m : Lent byt
     listed-zero = ap (λ (x : Answer). x .number) (m .answer) ∙ read-zero
 
     -- the parts that are lent on
-    pub deviations-within : p .deviations ≤ maxRows
+    deviations-within : p .deviations ≤ maxRows
     deviations-within = rw (read-pack .1) (few-deviations bytes (m .small) read-zero)
 
-    pub slots-within : p .slots ≤ maxSlots
+    slots-within : p .slots ≤ maxSlots
     slots-within = rw (read-pack .2) (few-slots bytes (m .small) read-zero)
 
     -- they hold the numbers of the definitions
@@ -179,13 +179,11 @@ module _ {bytes : List ℕ} {r : ReadAnswer} {ds cs ps : List ℕ} (m : Lent byt
         left-front (presenceOf bytes (headOf bytes)) (m .third) (readListed r) listed-zero (m .presence)
         (read-pack .2 ∙ sym (length-tab (slotsOf (matrixSize bytes)) _))
 
-    -- as many as there are slots
-    pub correlations-long : slotsOf (p .«matrix_size») ≡ length (take (p .slots) cs)
-    correlations-long = rw (read-pack .0, correlations-are) (sym (length-tab (slotsOf (matrixSize bytes)) _))
-
-    pub presence-long : slotsOf (p .«matrix_size») ≡ length (take (p .slots) ps)
-    presence-long = rw (read-pack .0, presence-is) (sym (length-tab (slotsOf (matrixSize bytes)) _))
+    -- the rooms hold them
+    pub held : length ds ≡ maxRows → length cs ≡ maxSlots → length ps ≡ maxSlots → Held p ds cs ps
+    held d c s =
+        (rw (read-pack .0) (sym (read-pack .2)), omega (arith, deviations-within), omega (arith, slots-within), omega (arith, slots-within))
 
     -- and their lines are what is to be printed
-    pub pack-lines : packLines (p .«matrix_size») (take (p .deviations) ds) (take (p .slots) cs) (take (p .slots) ps) ≡ readLines bytes
+    pub pack-lines : heldLines p ds cs ps ≡ readLines bytes
     pack-lines = rw (read-pack .0, deviations-are, correlations-are, presence-is, read-zero)

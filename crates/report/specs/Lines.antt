@@ -1,10 +1,12 @@
 -- The lines that the program prints. Every line ends with a newline.
-use Prim.Native.Nat.{ℕ, _+_, _-_}
+use Prim.Native.Nat.{ℕ, _+_, _-_, _≤_}
+use mathlib.Core.Path.{_≡_}
 use mathlib.Core.List.{List, [], _∷_, _++_}
-use lib.ListN.{length, getD}
+use lib.ListN.{length, take, getD}
 use Rattle.answers.specs.Table.{Answer, plains}
 use Rattle.answers.specs.Lent.{joined}
-use Rattle.layout.specs.Triangle.{slotOf}
+use Rattle.layout.specs.Triangle.{slotsOf, slotOf}
+use Rattle.layout.specs.declared.pack.SdccFlp.{SdccFlp}
 use Rattle.text.specs.Text.{ascii, space, newline, named, spacedBits}
 
 -- more than this program reads
@@ -34,7 +36,7 @@ sLine i bits = named (ascii "s ") i ++ bitsEnd bits
 
 -- i, j, presence, bits
 abbrev pub cLine : ℕ → ℕ → ℕ → ℕ → List ℕ
-cLine i j present bits = named (ascii "c ") i ++ named space j ++ named space present ++ bitsEnd bits
+cLine i j present bits = ascii "c" ++ numbers (i ∷ j ∷ present ∷ []) ++ bitsEnd bits
 
 abbrev pub deviationLines : List ℕ → List ℕ
 deviationLines ds = joined (length ds) (λ i. sLine i (getD ds i 0))
@@ -52,3 +54,12 @@ module _ (n : ℕ) (cs ps : List ℕ) where
 
 abbrev pub packLines : ℕ → List ℕ → List ℕ → List ℕ → List ℕ
 packLines n ds cs ps = nLine n (length ds) (length cs) ++ deviationLines ds ++ slotLines n cs ps
+
+-- ---- a pack whose numbers stand at the front of rooms that hold them
+abbrev pub heldLines : SdccFlp → List ℕ → List ℕ → List ℕ → List ℕ
+heldLines p ds cs ps =
+    packLines (p .«matrix_size») (take (p .deviations) ds) (take (p .slots) cs) (take (p .slots) ps)
+
+abbrev pub Held : SdccFlp → List ℕ → List ℕ → List ℕ → Type 0
+Held p ds cs ps =
+    (slotsOf (p .«matrix_size») ≡ p .slots) × (p .deviations ≤ length ds) × (p .slots ≤ length cs) × (p .slots ≤ length ps)

@@ -2,3 +2,4 @@
 mod lines;
 pub mod print;
 mod refusal;
+mod values;

@@ -1,15 +1,17 @@
 //! The lines of a pack that was read: n, then an s for each deviation, then a c for each slot.
+use crate::values::put_values;
+use layout::pack::SdccFlp;
 use text::part::within;
 use text::put::put_bits;
 use text::put::put_byte;
 use text::put::put_named;
 ghost use mathlib.Core.Path.{_≡_};
-ghost use Prim.Native.Nat.{_+_, _<_};
+ghost use Prim.Native.Nat.{_+_, _≤_, _<_};
 ghost use lib.ListN.{length};
 ghost use Rattle.layout.specs.Triangle.{slotsOf, slotOf};
 ghost use Rattle.text.specs.Put.{Put};
 ghost use Rattle.report.specs.Lines.{bitsEnd, nLine, sLine, cLine};
-ghost use Rattle.report.specs.Lines.{deviationLines, rowLines, slotLines, packLines};
+ghost use Rattle.report.specs.Lines.{deviationLines, rowLines, slotLines, Held, heldLines};
 
 // N, the deviation count and M.
 fn put_counts(rows: usize, deviations: usize, slots: usize, at: usize, out: &mut [u8]) -> usize
@@ -51,9 +53,8 @@ fn put_deviations(deviations: &[u64], at: usize, out: &mut [u8]) -> usize
 fn put_slot(i: usize, j: usize, present: u8, bits: u64, at: usize, out: &mut [u8]) -> usize
     ensures { λ r. ⌜ Put (cLine i j present bits) at (now (out .entry)) r (now (out .exit)) ⌝ }
 {
-    let rowed = put_named(b"c ", i as u64, at, out);
-    let paired = put_named(b" ", j as u64, rowed, out);
-    let marked = put_named(b" ", present as u64, paired, out);
+    let named = put_byte(b'c', at, out);
+    let marked = put_values(3, [i as u64, j as u64, present as u64], named, out);
     put_bits_end(bits, marked, out)
 }
 
@@ -68,24 +69,24 @@ fn put_row(
     out: &mut [u8],
 ) -> usize
     requires { ⌜ (i < rows) × (first ≡ slotOf rows i (i + 1))
-        × (slotsOf rows ≡ length (now correlations)) × (slotsOf rows ≡ length (now presence)) ⌝ }
+        × (slotsOf rows ≤ length (now correlations)) × (slotsOf rows ≤ length (now presence)) ⌝ }
     ensures { λ r. ⌜ Put (rowLines rows (now (correlations .entry)) (now (presence .entry)) i)
         at (now (out .entry)) r (now (out .exit)) ⌝ }
 {
-    let count = rows - 1 - i;
     let mut next = within(at, out);
-    let mut k: usize = 0;
-    while k < count {
-        let slot = first + k;
-        next = put_slot(i, i + 1 + k, presence[slot], correlations[slot], next, out);
-        k += 1;
+    let mut slot = first;
+    let mut j = i + 1;
+    while j < rows {
+        next = put_slot(i, j, presence[slot], correlations[slot], next, out);
+        slot += 1;
+        j += 1;
     }
     next
 }
 
 // Row by row; the first slot of each row is carried along.
 fn put_slots(rows: usize, correlations: &[u64], presence: &[u8], at: usize, out: &mut [u8]) -> usize
-    requires { ⌜ (slotsOf rows ≡ length (now correlations)) × (slotsOf rows ≡ length (now presence)) ⌝ }
+    requires { ⌜ (slotsOf rows ≤ length (now correlations)) × (slotsOf rows ≤ length (now presence)) ⌝ }
     ensures { λ r. ⌜ Put (slotLines rows (now (correlations .entry)) (now (presence .entry)))
         at (now (out .entry)) r (now (out .exit)) ⌝ }
 {
@@ -100,19 +101,21 @@ fn put_slots(rows: usize, correlations: &[u64], presence: &[u8], at: usize, out:
     next
 }
 
-// All of them, from the front on.
+// All of them, from the front on: the pack's numbers stand at the front of the rooms.
 pub(crate) fn put_pack(
-    rows: usize,
+    pack: SdccFlp,
     deviations: &[u64],
     correlations: &[u64],
     presence: &[u8],
     out: &mut [u8],
 ) -> usize
-    requires { ⌜ (slotsOf rows ≡ length (now correlations)) × (slotsOf rows ≡ length (now presence)) ⌝ }
-    ensures { λ r. ⌜ Put (packLines rows (now (deviations .entry)) (now (correlations .entry)) (now (presence .entry)))
+    requires { ⌜ Held pack (now deviations) (now correlations) (now presence) ⌝ }
+    ensures { λ r. ⌜ Put (heldLines pack (now (deviations .entry)) (now (correlations .entry)) (now (presence .entry)))
         0 (now (out .entry)) r (now (out .exit)) ⌝ }
 {
-    let counted = put_counts(rows, deviations.len(), correlations.len(), 0, out);
-    let rowed = put_deviations(deviations, counted, out);
+    let rows = pack.matrix_size as usize;
+    let count = pack.deviations;
+    let counted = put_counts(rows, count, pack.slots, 0, out);
+    let rowed = put_deviations(&deviations[..count], counted, out);
     put_slots(rows, correlations, presence, rowed, out)
 }

@@ -68,13 +68,7 @@ fn put_read(bytes: &[u8], out: &mut [u8]) -> usize
     let mut presence = room_for_presence();
     let read = decode_sdcc_flp(bytes, &mut deviations, &mut correlations, &mut presence);
     match read {
-        ReadAnswer::Done(pack) => put_pack(
-            pack.matrix_size as usize,
-            &deviations[..pack.deviations],
-            &correlations[..pack.slots],
-            &presence[..pack.slots],
-            out,
-        ),
+        ReadAnswer::Done(pack) => put_pack(pack, &deviations, &correlations, &presence, out),
         ReadAnswer::Refused(refusal) => put_refusal(refusal, out),
     }
 }

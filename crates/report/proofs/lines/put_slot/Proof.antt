@@ -9,19 +9,14 @@ returns : tie.Need-returns
 returns c =
     let w = c .before .before in
     let v = w .before .before .before .before in
-    let u = v .before .before .before .before .before in
-    let x = u .before .before .before .before .before in
-    put-then (put-then (put-then (x .put-named .ensures) (u .put-named2 .ensures)) (v .put-named3 .ensures)) (w .put-bits-end .ensures)
+    let u = v .before .before .before .before in
+    put-then (put-then (u .put-byte .ensures) (v .put-values .ensures)) (w .put-bits-end .ensures)
 
 pub put-slot-spec : {M : Type 1} → statement M
 put-slot-spec =
     tie.close
     (tie.spec
-    (λ c. search needs)
     (λ c κs. search needs)
-    (λ c. search needs)
-    (λ c κs. search needs)
-    (λ c. search needs)
     (λ c κs. search needs)
     (λ c κs. search needs)
     (λ c. search needs)

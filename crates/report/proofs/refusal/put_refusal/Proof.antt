@@ -2,20 +2,24 @@
 -- Assumes nothing.
 use borrow.Author.Needs.{needs}
 use Rattle.text.proofs.Pieces.{put-then}
-use Rattle.report.proofs.Numbers.{row-values}
+use Rattle.report.proofs.Numbers.{row-count, row-values}
 use Rattle.report.proofs.refusal.put_refusal.Statement.{statement}
 use Rattle.report.proofs.refusal.put_refusal.Tie as tie
+
+put-values-requires : tie.Need-put-values-requires
+put-values-requires c κs =
+    let s = c .before .before .before .before .before .before .before in
+    rw (s .row-of .ensures) (row-count (s .before .before .args .refusal))
 
 returns : tie.Need-returns
 returns c =
     let w = c .before .before in
     let v = w .before .before .before .before in
-    let u = v .before .before .before .before .before in
-    let t = u .before .before .before in
-    let s = t .before .before .before in
+    let u = v .before .before .before .before in
+    let s = u .before .before .before .before in
     let r = s .before .before .args .refusal in
-    rw (t .within-words .ensures .1, s .row-of .ensures, row-values r)
-    at (put-then (put-then (u .put-named .ensures) (v .put-numbers .ensures)) (w .put-byte .ensures))
+    rw (s .row-of .ensures, row-values r)
+    at (put-then (put-then (u .put-named .ensures) (v .put-values .ensures)) (w .put-byte .ensures))
 
 pub put-refusal-spec : {M : Type 1} → statement M
 put-refusal-spec =
@@ -24,11 +28,7 @@ put-refusal-spec =
     (λ c κs. search needs)
     (λ c. search needs)
     (λ c κs. search needs)
-    (λ c. search needs)
-    (λ c κs. search needs)
-    (λ c. search needs)
-    (λ c. search needs)
-    (λ c κs. search needs)
+    put-values-requires
     (λ c κs. search needs)
     (λ c. search needs)
     returns)

@@ -1,0 +1,66 @@
+-- `values::put_values` meets its contract: each turn puts the next number.
+-- Assumes nothing.
+use mathlib.Core.Path.{_≡_}
+use Prim.Native.Nat.{_-_, _<_}
+use native.Mathlib.Numerals.{add-one}
+use native.Mathlib.Omega.{arith}
+use borrow.Author.Needs.{needs}
+use lib.ListN.{length, take, drop, drop-of-length-le}
+use lib.Seq.{drop-cons, getD-take, length-take-le}
+use Rattle.text.proofs.Pieces.{Rest, rest-all, rest-more, rest-done}
+use Rattle.report.specs.Lines.{numbers}
+use Rattle.report.proofs.values.put_values.Statement.{statement}
+use Rattle.report.proofs.values.put_values.Tie as tie
+
+abbrev Inv-loop : tie.InvT-loop
+Inv-loop count at out₀ values next₀ i₀ t8 out next i = Rest (numbers (drop i (take count values))) next out (numbers (take count values)) at out₀
+
+abbrev μ-loop : tie.MeasureT-loop
+μ-loop count at out₀ values next₀ i₀ t8 out next i = count - i
+
+-- as many as are asked for
+long : (c : tie.After-within Inv-loop μ-loop) → let a = c .before .before .before .args in length (take (a .count) (a .t2)) ≡ a .count
+long c =
+    let s = c .before .before .before in
+    length-take-le (s .args .count) (s .args .t2) (omega (arith, s .good .1 .0, s .pre))
+
+loop-holds : tie.Need-loop-holds Inv-loop μ-loop
+loop-holds c =
+    let a = c .before .before .before .args in
+    rest-all (numbers (take (a .count) (a .t2))) (a .at) (a .out .now) (c .within .ensures .1)
+
+loop-again : tie.Need-loop-again Inv-loop μ-loop
+loop-again c =
+    let w = c .before .before in
+    let l = w .before .before .before in
+    let p = l .before .loop in
+    let a = l .before .before .before .before .before .args in
+    let values = take (a .count) (a .t2) in
+    let h : p .i < length values = omega (arith, long (l .before .before)) in
+    rw add-one (rest-more (rw (drop-cons values (p .i) 0 h, getD-take (a .count) (a .t2) (p .i) 0 (l .loop-test .taken)) at (p .inv)) (w .put-named .ensures))
+
+same-length : tie.Need-same-length Inv-loop μ-loop
+same-length c = c .before .loop .inv .long
+
+returns : tie.Need-returns Inv-loop μ-loop
+returns c =
+    let a = c .before .before .before .before .before .args in
+    rest-done (rw (drop-of-length-le (take (a .count) (a .t2)) {i = c .before .loop .i} (omega (arith, long (c .before .before)))) at (c .before .loop .inv))
+
+pub put-values-spec : {M : Type 1} → statement M
+put-values-spec =
+    tie.close
+    (tie.spec
+    Inv-loop
+    μ-loop
+    (λ c κs. search needs)
+    loop-holds
+    (λ c. search needs)
+    (λ c. search needs)
+    (λ c. search needs)
+    (λ c κs. search needs)
+    (λ c. search needs)
+    (λ c. search needs)
+    loop-again
+    same-length
+    returns)
