@@ -14,10 +14,12 @@ use Rattle.numbers.specs.BerOid.{oidRead}
 use Rattle.elements.specs.Elements.{headOf, deviationsAt, deviationCount, codesAt, presentCount, endAt}
 use Rattle.elements.specs.Formats.{deviationFormat, codeFormat}
 use Rattle.reader.specs.Rules.{done}
-use Rattle.rules.specs.Rules.{inTurn, codesRule, overRule, ruleH, ruleI, ruleJ, ruleK, elementRules, roomRules}
+use Rattle.rules.specs.Rules.{inTurn, codesRule, overRule, ruleH, ruleI, ruleJ, ruleK, elementRules, packRules, roomRules}
+use Rattle.elements.specs.declared.head.Head.{Head}
+use Rattle.plan.specs.Places.{packPlan}
 use Rattle.writer.specs.Pack.{packBytes}
 use Rattle.trip.specs.Answered.{Answered}
-use Rattle.plan.specs.Rules.{countRules, rangeRules}
+use Rattle.plan.specs.Rules.{countRules, rangeRules, planRules}
 use Rattle.slots.specs.Rules.{roomRule}
 
 -- each element in turn, and each correlation
@@ -58,19 +60,36 @@ elements-in bytes =
     (in-next (ruleI bytes h) (next (ruleJ bytes h) (ruleK bytes h)) (codes-in k (presentCount bytes h) (length bytes - codesAt h))
     (in-next (ruleJ bytes h) (ruleK bytes h) (turns-in bytes (codesAt h) (k .clen) (codeFormat k) (formats-in k .1) (presentCount bytes h)) (over-in (endAt bytes h) (length bytes))))
 
-rooms-in : (bytes : List ℕ) (d c p : ℕ) → InTable (next (roomRules (headOf bytes) d c p) (done (headOf bytes)))
-rooms-in bytes d c p = search table depth 20
+rooms-in : (h : Head) (d c p : ℕ) → InTable (roomRules h d c p)
+rooms-in h d c p = search table depth 20
+
+-- a) to g), and a) to k)
+fits-in : (bytes : List ℕ) → InTable (fitRules bytes)
+fits-in bytes =
+    let n = matrixSize bytes in
+    let R = length bytes - bodyAt bytes in
+    let k = controlOf bytes in
+    in-next (headRules bytes) (sizeRules n R k) (heads-in bytes) (sizes-in n R k)
+
+packs-in : (bytes : List ℕ) → InTable (packRules bytes)
+packs-in bytes = in-next (fitRules bytes) (elementRules bytes (headOf bytes)) (fits-in bytes) (elements-in bytes)
 
 oid-in : (bytes : List ℕ) → InTable (oidRead bytes)
 unfolding oidRead
 oid-in bytes = search table depth 10
 
--- the writer's counts, and its room
+-- the writer's counts, the plan, the room, and the slots
 counts-in : (n count L : ℕ) → InTable (countRules n count L)
 counts-in n count L = search table depth 10
 
-room-in : (needed room : ℕ) → InTable (next (roomRule needed room) (answer 0 (wholes (needed ∷ []))))
+plans-in : (n : ℕ) (cs : List ℕ) (L : ℕ) → InTable (planRules n cs L)
+plans-in n cs L = in-next (countRules n (length cs) L) (rangeRules cs) (counts-in n (length cs) L) (ranges-in cs)
+
+room-in : (needed room : ℕ) → InTable (roomRule needed room)
 room-in needed room = search table depth 10
+
+done-in : (n : ℕ) → InTable (answer 0 (wholes (n ∷ [])))
+done-in n = search table depth 10
 
 pub answered : Answered
 answered =
@@ -78,14 +97,23 @@ answered =
       reads = λ bytes d c p.
           let h = headOf bytes in
           let behind = next (roomRules h d c p) (done h) in
-          in-next (fitRules bytes) (next (elementRules bytes h) behind) (in-next (headRules bytes) (sizeRules (matrixSize bytes) (length bytes - bodyAt bytes) (controlOf bytes)) (heads-in bytes) (sizes-in (matrixSize bytes) (length bytes - bodyAt bytes) (controlOf bytes)))
-          (in-next (elementRules bytes h) behind (elements-in bytes) (rooms-in bytes d c p));
+          in-next (fitRules bytes) (next (elementRules bytes h) behind) (fits-in bytes)
+          (in-next (elementRules bytes h) behind (elements-in bytes) (in-next (roomRules h d c p) (done h) (rooms-in h d c p) (search table depth 10)));
       fits = sizes-in;
+      opens = fits-in;
+      decides = packs-in;
+      rooms = rooms-in;
       reads-oid = oid-in;
       writes = λ ds cs L room.
           let long = length (packBytes ds cs L) in
-          let behind = next (roomRule long room) (answer 0 (wholes (long ∷ []))) in
-          in-next (countRules (length ds) (length cs) L) (next (rangeRules cs) behind) (counts-in (length ds) (length cs) L) (in-next (rangeRules cs) behind (ranges-in cs) (room-in long room));
+          let done = answer 0 (wholes (long ∷ [])) in
+          let behind = next (roomRule long room) done in
+          in-next (countRules (length ds) (length cs) L) (next (rangeRules cs) behind) (counts-in (length ds) (length cs) L)
+          (in-next (rangeRules cs) behind (ranges-in cs) (in-next (roomRule long room) done (room-in long room) (done-in long)));
+      plans = plans-in;
+      writes-slots = λ n cs L room.
+          let end = packPlan n cs L .end in
+          in-next (planRules n cs L) (roomRule end room) (plans-in n cs L) (room-in end room);
       writes-oid = λ v room. search table depth 10;
       maps = λ L v room. search table depth 10;
       checks = range-in;
