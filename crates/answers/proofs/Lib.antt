@@ -5,6 +5,7 @@ pub mod Lent
 pub mod Next
 pub mod OneAnswer
 pub mod OneToOne
+pub mod Outcome
 pub mod Rows
 pub mod Rules
 pub mod Runs

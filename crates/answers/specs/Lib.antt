@@ -3,3 +3,4 @@ pub mod Listed
 pub mod Row
 pub mod Lent
 pub mod OneAnswer
+pub mod Outcome

@@ -5,14 +5,12 @@ use mathlib.Core.Bool.{Bool, true, false}
 use mathlib.Core.List.{List, []}
 use Prim.Native.Nat.{ℕ, _+_, _-_, _/_, _≤_}
 use native.Mathlib.Omega.{arith}
-use borrow.Author.Tests.{eqb-true}
 use lib.Dec.{eqb, ltb}
 use lib.ListN.{length}
-use Rattle.answers.specs.Listed.{listed}
+use Rattle.answers.specs.Outcome.{found, refused}
 use Rattle.answers.specs.Table.{Answer, answer, pick, passes, next}
-use Rattle.answers.specs.declared.Refusal.{Refusal}
 use Rattle.answers.proofs.Next.{next-zero}
-use Rattle.answers.proofs.OneToOne.{refused-not-done}
+use Rattle.answers.proofs.Outcome.{found-tells}
 use Rattle.answers.proofs.Rules.{picked}
 use Rattle.numbers.specs.BerOid.{oidRead}
 use Rattle.layout.specs.declared.control.ParseControl.{ParseControl}
@@ -26,14 +24,7 @@ use Rattle.elements.specs.declared.head.Head.{Head}
 use Rattle.elements.specs.declared.head.Places.{Places}
 use Rattle.elements.specs.Elements.{headOf, placesOf}
 use Rattle.elements.specs.Held.{Within, Placed}
-use Rattle.elements.specs.Listed.{opens, refused, verdict}
-
--- ---- a verdict by its rules' answer
-pub verdict-refused : (bytes : List ℕ) {a : Answer} (r : Refusal) → listed r ≡ a → refused (listed r) ≡ verdict bytes a
-verdict-refused bytes r e = rw (← e, refused-not-done r)
-
-pub verdict-opens : (bytes : List ℕ) {a : Answer} → a ≡ passes → opens (placesOf (headOf bytes)) ≡ verdict bytes a
-verdict-opens bytes e = rw e
+use Rattle.elements.specs.Listed.{verdict}
 
 -- ---- a header that was not read: 1
 head-refused : (t u : Bool) → eqb (next (pick t passes (answer 1 [])) (pick u (answer 1 []) passes) .number) 0 ≡ false
@@ -56,18 +47,6 @@ module _ (bytes : List ℕ) {n : ℕ} {k : ParseControl} {b : ℕ} (o : Open n k
   pub head-is : head ≡ headOf bytes
   head-is = let p = opened bytes o in λ i. record { n = p .size i; control = p .control i; body = p .body i }
 
--- ---- a verdict that opens, or refuses
-pub verdict-tells : (bytes : List ℕ) (a : Answer) {p : Places} → opens p ≡ verdict bytes a
-    → (a .number ≡ 0) × (p ≡ placesOf (headOf bytes))
-verdict-tells bytes a {p} =
-    picked (λ v. opens p ≡ v → (a .number ≡ 0) × (p ≡ placesOf (headOf bytes))) _ _ _ (λ t e. (eqb-true _ 0 t, (cc)))
-    (λ _ e. let z : _≡_ {A = ℕ} 0 1 = cc in absurd (omega arith))
-
-pub verdict-stops : (bytes : List ℕ) {a x : Answer} → refused x ≡ verdict bytes a → (eqb (a .number) 0 ≡ false) × (x ≡ a)
-verdict-stops bytes {a} {x} =
-    picked (λ v. refused x ≡ v → (eqb (a .number) 0 ≡ false) × (x ≡ a)) _ _ _
-    (λ _ e. let z : _≡_ {A = ℕ} 0 1 = cc in absurd (omega arith)) (λ f e. (f, (cc)))
-
 -- ---- what rules a) to g) tell of the elements
 pub fit-within : (bytes : List ℕ) → fitRules bytes .number ≡ 0 → Within bytes (headOf bytes)
 fit-within bytes z =
@@ -84,7 +63,7 @@ fit-within bytes z =
     }
 
 -- the places of a pack that was opened
-pub opened-placed : (bytes : List ℕ) {p : Places} → opens p ≡ verdict bytes (fitRules bytes) → Placed bytes p
+pub opened-placed : (bytes : List ℕ) {p : Places} → found p ≡ verdict bytes (fitRules bytes) → Placed bytes p
 opened-placed bytes o =
-    let t = verdict-tells bytes (fitRules bytes) o in
+    let t = found-tells (fitRules bytes) (placesOf (headOf bytes)) o in
     rw (t .1) (record { within = fit-within bytes (t .0); is = refl })

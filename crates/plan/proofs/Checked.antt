@@ -14,10 +14,11 @@ use Rattle.answers.proofs.Next.{next-passed}
 use Rattle.answers.proofs.OneToOne.{refused-not-done}
 use Rattle.answers.proofs.Rules.{picked}
 use Rattle.imapb.specs.Tables.{rangeRule}
-use Rattle.plan.specs.Listed.{found, refused, countedOne, counted}
+use Rattle.answers.specs.Outcome.{found, refused}
+use Rattle.plan.specs.Listed.{countedOne, counted}
 use Rattle.plan.specs.Rules.{rangeRules}
 use Rattle.plan.specs.Zero.{isZero, zerosBefore}
-use Rattle.plan.proofs.Outcome.{found-tells, refused-tells, refused-where}
+use Rattle.answers.proofs.Outcome.{found-tells, refused-tells, refused-where}
 
 pub zeros-le : (cs : List ℕ) (k : ℕ) → zerosBefore cs k ≤ k
 zeros-le cs zero = omega arith

@@ -4,5 +4,4 @@ pub mod Counts
 pub mod EqualZero
 pub mod OneAnswer
 pub mod Ordered
-pub mod Outcome
 pub mod Raised

@@ -13,12 +13,13 @@ use Rattle.answers.specs.declared.Refusal.{Refusal}
 use Rattle.answers.proofs.Next.{next-passed, stops}
 use Rattle.layout.specs.Size.{maxSlots}
 use Rattle.plan.specs.declared.places.Plan.{Plan}
-use Rattle.plan.specs.Listed.{found, refused, counted, planned}
+use Rattle.answers.specs.Outcome.{found, refused}
+use Rattle.plan.specs.Listed.{counted, planned}
 use Rattle.plan.specs.Places.{packPlan, planOf}
 use Rattle.plan.specs.Rules.{countRules, rangeRules, planRules}
 use Rattle.plan.specs.Zero.{zerosBefore}
 use Rattle.plan.proofs.Counts.{Counts, counts-tell}
-use Rattle.plan.proofs.Outcome.{found-tells, refused-tells, found-where, refused-where}
+use Rattle.answers.proofs.Outcome.{found-tells, refused-tells, found-where, refused-where}
 
 module _ (n : ℕ) (cs : List ℕ) (L : ℕ) where
   abbrev counts : Answer

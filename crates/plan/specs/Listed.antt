@@ -1,10 +1,10 @@
 -- What the plan and its parts answer, by the rules.
 use Prim.Native.Nat.{ℕ}
 use mathlib.Core.List.{List}
-use lib.Dec.{eqb}
 use lib.ListN.{length}
-use Rattle.answers.specs.Table.{Answer, pick}
+use Rattle.answers.specs.Table.{pick}
 use Rattle.answers.specs.Listed.{listed}
+use Rattle.answers.specs.Outcome.{Outcome, found, refused, unless}
 use Rattle.imapb.specs.Tables.{rangeRule}
 use Rattle.plan.specs.declared.check.Counted.{Counted}
 use Rattle.plan.specs.declared.check.Counted.the-variants as count
@@ -14,15 +14,6 @@ use Rattle.plan.specs.declared.places.Plan.{Plan}
 use Rattle.plan.specs.Zero.{isZero, zerosBefore}
 use Rattle.plan.specs.Rules.{rangeRules, planRules}
 use Rattle.plan.specs.Places.{packPlan}
-
--- what was asked for, or a refusal
-pub data Outcome (A : Type 0) : Type 0 where
-  found : A → Outcome A
-  refused : Answer → Outcome A
-
--- what was asked for where the rules refuse nothing
-abbrev pub unless : {A : Type 0} → Answer → A → Outcome A
-unless rules a = pick (eqb (rules .number) 0) (found a) (refused rules)
 
 -- ---- the zeros of one correlation, and of all
 abbrev pub countListed : Counted → Outcome ℕ

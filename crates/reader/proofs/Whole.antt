@@ -6,17 +6,19 @@ use Prim.Native.Nat.{ℕ}
 use lib.ListN.{length}
 use Rattle.answers.specs.Lent.{over, leaves}
 use Rattle.answers.specs.Listed.{listed}
+use Rattle.answers.specs.Outcome.{found, refused}
 use Rattle.answers.specs.Table.{Answer, passes, next}
 use Rattle.answers.specs.declared.Refusal.{Refusal}
 use Rattle.answers.proofs.Next.{next-next, next-passed, next-zero}
 use Rattle.answers.proofs.OneToOne.{refused-not-done}
+use Rattle.answers.proofs.Outcome.{found-tells, refused-tells}
 use Rattle.layout.specs.Size.{fitRules}
 use Rattle.elements.specs.declared.head.Head.{Head}
 use Rattle.elements.specs.declared.head.Places.{Places}
 use Rattle.elements.specs.Elements.{headOf, placesOf, deviations, correlations, presence}
 use Rattle.elements.specs.Held.{Placed}
-use Rattle.elements.specs.Listed.{opens, refused, verdict}
-use Rattle.elements.proofs.Opened.{verdict-tells, verdict-stops, fit-within}
+use Rattle.elements.specs.Listed.{verdict}
+use Rattle.elements.proofs.Opened.{fit-within}
 use Rattle.rules.specs.Rules.{elementRules, packRules, roomRules}
 use Rattle.reader.specs.declared.read.ReadAnswer.{ReadAnswer}
 use Rattle.reader.specs.declared.read.ReadAnswer.the-variants.{Refused}
@@ -35,13 +37,13 @@ module _ (bytes : List ℕ) (ds cs ps : ℕ) where
   -- a pack that is refused
   pub pack-stops : (r : Refusal) → refused (listed r) ≡ verdict bytes (packRules bytes) → listed r ≡ readAnswer bytes ds cs ps
   pack-stops r e =
-      let v = verdict-stops bytes {a = packRules bytes} e in
-      v .1 ∙ sym (rw (v .0) at by-pack)
+      let f : packRules bytes ≡ listed r = refused-tells (packRules bytes) (placesOf (headOf bytes)) e in
+      sym (rw (f, refused-not-done r) at by-pack)
 
   -- a pack whose rules a) to k) pass
-  module _ {p : Places} (o : opens p ≡ verdict bytes (packRules bytes)) where
+  module _ {p : Places} (o : found p ≡ verdict bytes (packRules bytes)) where
     told : (packRules bytes .number ≡ 0) × (p ≡ placesOf (headOf bytes))
-    told = verdict-tells bytes (packRules bytes) o
+    told = found-tells (packRules bytes) (placesOf (headOf bytes)) o
 
     pub head-is : p .head ≡ headOf bytes
     head-is = ap (λ (x : Places). x .head) (told .1)

@@ -4,7 +4,7 @@ use mathlib.Core.Path.{_≡_, sym, ap, _∙_}
 use denote.Ref.{now}
 use Rattle.answers.specs.OneAnswer.{OneAnswer}
 use Rattle.plan.specs.declared.places.Plan.{Plan}
-use Rattle.plan.specs.Listed.{Outcome}
+use Rattle.answers.specs.Outcome.{Outcome}
 use Rattle.plan.proofs.OneAnswer.{plan-one}
 use Rattle.slots.specs.Listed.{slotsLeft}
 use Rattle.slots.proofs.write.write_slots.Reads as write-slots

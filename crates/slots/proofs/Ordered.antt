@@ -9,10 +9,11 @@ use Rattle.answers.specs.declared.Refusal.{Refusal}
 use Rattle.answers.specs.declared.Refusal.the-variants.{BufferTooSmall}
 use Rattle.answers.proofs.OneToOne.{refused-not-done}
 use Rattle.plan.specs.declared.places.Plan.{Plan}
-use Rattle.plan.specs.Listed.{found, refused, planned}
+use Rattle.answers.specs.Outcome.{found, refused}
+use Rattle.plan.specs.Listed.{planned}
 use Rattle.plan.specs.Places.{packPlan}
 use Rattle.plan.specs.Rules.{planRules}
-use Rattle.plan.proofs.Outcome.{refused-tells, found-where, refused-where}
+use Rattle.answers.proofs.Outcome.{refused-tells, found-where, refused-where}
 use Rattle.slots.specs.Listed.{slotsAnswer}
 use Rattle.slots.specs.Rules.{slotsRules}
 

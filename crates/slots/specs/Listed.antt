@@ -3,7 +3,7 @@ use Prim.Native.Nat.{ℕ}
 use mathlib.Core.List.{List}
 use lib.Seq.{sets}
 use Rattle.plan.specs.declared.places.Plan.{Plan}
-use Rattle.plan.specs.Listed.{Outcome, found, refused, unless}
+use Rattle.answers.specs.Outcome.{Outcome, found, refused, unless}
 use Rattle.plan.specs.Places.{packPlan}
 use Rattle.slots.specs.Rules.{slotsRules}
 use Rattle.slots.specs.Slots.{element3, element5}

@@ -5,10 +5,11 @@ use mathlib.Core.Path.{_≡_, sym, ap, _∙_}
 use Prim.Native.Nat.{ℕ}
 use borrow.Author.Needs.{needs}
 use Rattle.answers.specs.Listed.{checked}
+use Rattle.answers.specs.Outcome.{found}
+use Rattle.answers.proofs.Outcome.{found-where, refused-where}
 use Rattle.answers.specs.Table.{Answer}
-use Rattle.elements.proofs.Opened.{verdict-refused, verdict-opens, short-refused, head-is, fit-within}
-use Rattle.elements.specs.Elements.{placesOf}
-use Rattle.elements.specs.Listed.{opens}
+use Rattle.elements.proofs.Opened.{short-refused, head-is, fit-within}
+use Rattle.elements.specs.Elements.{headOf, placesOf}
 use Rattle.layout.proofs.Peek.{body-within, fit-is}
 use Rattle.layout.specs.Listed.{headerOf}
 use Rattle.layout.specs.Size.{fitRules}
@@ -53,7 +54,7 @@ returns-2 : tie.Need-returns-2
 returns-2 c =
     let d = c .before .before .before in
     let e = c .before .fits2 .given in
-    verdict-refused (bytes d) (e .0 .0) (sym (ap checked (e .1)) ∙ fits d)
+    refused-where (fitRules (bytes d)) (placesOf (headOf (bytes d))) (e .0 .0) (sym (fits d) ∙ ap checked (e .1))
 
 enum-told-2 : tie.Need-enum-told-2
 enum-told-2 c = search needs
@@ -67,8 +68,9 @@ places-of-requires c κs =
 returns-3 : tie.Need-returns-3
 returns-3 c =
     let d = c .before .before .before in
-    ap opens (c .places-of .ensures ∙ ap placesOf (head-is (bytes d) (was-open d)))
-    ∙ verdict-opens (bytes d) (sym (fits d) ∙ ap checked (c .before .enum-told2 .given .1))
+    ap found (c .places-of .ensures ∙ ap placesOf (head-is (bytes d) (was-open d)))
+    ∙ found-where (fitRules (bytes d)) (placesOf (headOf (bytes d)))
+    (ap (λ (x : Answer). x .number) (sym (fits d) ∙ ap checked (c .before .enum-told2 .given .1)))
 
 pub open-pack-spec : {M : Type 1} → statement M
 open-pack-spec =

@@ -6,7 +6,7 @@ use Rattle.answers.specs.Table.{Answer, pick}
 use Rattle.answers.specs.Listed.{checked}
 use Rattle.imapb.specs.Tables.{rangeRule}
 use Rattle.plan.specs.Zero.{isZero}
-use Rattle.plan.proofs.Outcome.{found-where, refused-where}
+use Rattle.answers.proofs.Outcome.{found-where, refused-where}
 use Rattle.plan.proofs.check.check_one.Statement.{statement}
 use Rattle.plan.proofs.check.check_one.Tie as tie
 

@@ -6,14 +6,15 @@ use borrow.Author.Needs.{needs}
 use lib.ListN.{length}
 use Rattle.answers.specs.Table.{Answer}
 use Rattle.answers.specs.Listed.{checked}
-use Rattle.plan.specs.Listed.{found, countListed, counted}
+use Rattle.answers.specs.Outcome.{found}
+use Rattle.plan.specs.Listed.{countListed, counted}
 use Rattle.plan.specs.Places.{planOf}
 use Rattle.plan.specs.Rules.{countRules, rangeRules}
 use Rattle.plan.specs.Zero.{zerosBefore}
 use Rattle.plan.proofs.Checked.{zeros-le}
 use Rattle.plan.proofs.Counts.{counts-tell}
 use Rattle.plan.proofs.Ordered.{counts-stop, range-stop, bounded-slots, all-pass}
-use Rattle.plan.proofs.Outcome.{found-tells}
+use Rattle.answers.proofs.Outcome.{found-tells}
 use Rattle.plan.proofs.pack.plan_pack.Statement.{statement}
 use Rattle.plan.proofs.pack.plan_pack.Tie as tie
 

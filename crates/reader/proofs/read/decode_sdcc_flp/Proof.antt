@@ -3,7 +3,8 @@
 use mathlib.Core.Path.{_≡_, refl, sym}
 use borrow.Author.Needs.{needs}
 use lib.ListN.{length}
-use Rattle.elements.specs.Listed.{opens, verdict}
+use Rattle.answers.specs.Outcome.{found}
+use Rattle.elements.specs.Listed.{verdict}
 use Rattle.reader.proofs.Whole.{pack-stops, head-is, placed, elements-pass, room-stops, all-pass, kept, stored}
 use Rattle.reader.specs.declared.read.ReadAnswer.the-variants.{Refused}
 use Rattle.rules.specs.Rules.{packRules}
@@ -11,7 +12,7 @@ use Rattle.reader.proofs.read.decode_sdcc_flp.Statement.{statement}
 use Rattle.reader.proofs.read.decode_sdcc_flp.Tie as tie
 
 -- the pack that rules a) to k) have passed
-was-open : (c : tie.After-known-told) → let b = c .before .before .before .before .before .before .before .before .args .bytes .now in opens (c .before .decided .given .0 .0) ≡ verdict b (packRules b)
+was-open : (c : tie.After-known-told) → let b = c .before .before .before .before .before .before .before .before .args .bytes .now in found (c .before .decided .given .0 .0) ≡ verdict b (packRules b)
 was-open c = rw (c .before .decided .given .1) at (c .before .before .before .decide .ensures)
 
 decide-requires : tie.Need-decide-requires

@@ -3,14 +3,15 @@
 use mathlib.Core.Path.{_≡_, sym}
 use borrow.Author.Needs.{needs}
 use Rattle.elements.proofs.Opened.{opened-placed}
-use Rattle.elements.specs.Listed.{opens, verdict}
+use Rattle.answers.specs.Outcome.{found}
+use Rattle.elements.specs.Listed.{verdict}
 use Rattle.layout.specs.Size.{fitRules}
 use Rattle.rules.proofs.Verdict.{early, later, all-pass}
 use Rattle.rules.proofs.decide.decide.Statement.{statement}
 use Rattle.rules.proofs.decide.decide.Tie as tie
 
 -- the pack that was opened
-was-open : (c : tie.After-known-told) → let b = c .before .before .before .before .before .args .bytes .now in opens (c .before .opened .given .0 .0) ≡ verdict b (fitRules b)
+was-open : (c : tie.After-known-told) → let b = c .before .before .before .before .before .args .bytes .now in found (c .before .opened .given .0 .0) ≡ verdict b (fitRules b)
 was-open c = rw (c .before .opened .given .1) at (c .before .before .before .open-pack .ensures)
 
 open-pack-requires : tie.Need-open-pack-requires

@@ -5,10 +5,11 @@ use borrow.Author.Needs.{needs}
 use lib.ListN.{length}
 use Rattle.answers.specs.Table.{Answer}
 use Rattle.plan.specs.declared.places.Plan.{Plan}
-use Rattle.plan.specs.Listed.{Outcome, planListed}
+use Rattle.answers.specs.Outcome.{Outcome}
+use Rattle.plan.specs.Listed.{planListed}
 use Rattle.plan.specs.Places.{packPlan}
 use Rattle.plan.specs.Rules.{planRules}
-use Rattle.plan.proofs.Outcome.{found-tells}
+use Rattle.answers.proofs.Outcome.{found-tells}
 use Rattle.slots.specs.Listed.{slotsLeft}
 use Rattle.slots.proofs.Lengths.{slots-fit}
 use Rattle.slots.proofs.Ordered.{plan-stop, room-stop, all-pass}

@@ -9,10 +9,11 @@ use lib.Seq.{length-sets}
 use Rattle.answers.specs.Table.{Answer}
 use Rattle.answers.proofs.OneToOne.{refused-not-done}
 use Rattle.plan.specs.declared.places.Plan.{Plan}
-use Rattle.plan.specs.Listed.{Outcome, found, planListed}
+use Rattle.answers.specs.Outcome.{Outcome, found}
+use Rattle.plan.specs.Listed.{planListed}
 use Rattle.plan.specs.Places.{packPlan}
 use Rattle.plan.proofs.Counts.{both-pass}
-use Rattle.plan.proofs.Outcome.{found-tells, refused-tells}
+use Rattle.answers.proofs.Outcome.{found-tells, refused-tells}
 use Rattle.slots.specs.Listed.{slotsLeft, slotsOver}
 use Rattle.slots.specs.Rules.{slotsRules}
 use Rattle.writer.proofs.Packed.{plan-end, others-room, packed}

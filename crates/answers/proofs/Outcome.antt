@@ -5,12 +5,12 @@ use Prim.Native.Nat.{ℕ}
 use native.Mathlib.Omega.{arith}
 use borrow.Author.Tests.{eqb-true}
 use lib.Dec.{eqb}
 use Rattle.answers.specs.Table.{Answer}
 use Rattle.answers.specs.Listed.{listed}
 use Rattle.answers.specs.declared.Refusal.{Refusal}
 use Rattle.answers.proofs.OneToOne.{refused-not-done}
 use Rattle.answers.proofs.Rules.{picked}
-use Rattle.plan.specs.Listed.{Outcome, found, refused, unless}
+use Rattle.answers.specs.Outcome.{Outcome, found, refused, unless}
 
 module _ {A : Type 0} (rules : Answer) (a : A) where
   pub found-tells : {x : A} → found x ≡ unless rules a → (rules .number ≡ 0) × (x ≡ a)
