@@ -20,7 +20,8 @@ const LINE: usize = 655_360;
 // No line spells more bytes, and no request is lent more.
 const BYTES: usize = LINE / 2;
 
-// The largest pack has 256 deviations and 32,640 slots. A request can be lent more, so that what stands past them shows.
+// The largest pack has 256 deviations and 32,640 slots. A request can be lent more, so that what stands past them
+// shows.
 const DEVIATIONS: usize = 1024;
 
 const SLOTS: usize = 33_792;
@@ -92,7 +93,8 @@ fn answer_line(
     output::put(out, answered, b'\n')
 }
 
-// The block has `end` bytes, of which those from `at` on are still to be taken; `read` bytes of a line are taken, and `held` bytes of output are not yet written.
+// The block has `end` bytes, of which those from `at` on are still to be taken; `read` bytes of a line are taken, and
+// `held` bytes of output are not yet written.
 struct State {
     at: usize,
     end: usize,
@@ -101,7 +103,8 @@ struct State {
     more: bool,
 }
 
-// Answers a line of the block, or reads the next block. What is held is written before that, so that whoever asks line by line is answered at once.
+// Answers a line of the block, or reads the next block. What is held is written before that, so that whoever asks
+// line by line is answered at once.
 fn turn(
     block: &mut [u8],
     line: &mut [u8],
@@ -145,7 +148,8 @@ fn turn(
     }
 }
 
-// Answers how much was read of a last line that no newline ends. The turns are counted down, from a number that no run uses up, since nothing says that the input ends.
+// Answers how much was read of a last line that no newline ends. The turns are counted down, from a number that no
+// run uses up, since nothing says that the input ends.
 fn answer_all(
     block: &mut [u8],
     line: &mut [u8],

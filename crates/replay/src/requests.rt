@@ -1,4 +1,5 @@
-//! The requests: each reads its words, calls a function of the port, and writes what that answers. A file for each group of them.
+//! The requests: each reads its words, calls a function of the port, and writes what that answers. A file for each
+//! group of them.
 use crate::cells;
 use crate::mapped;
 use crate::numeric;
@@ -10,7 +11,8 @@ use crate::writes;
 ghost use Prim.Native.Nat.{_≤_};
 ghost use lib.ListN.{length};
 
-// The answer to a line that is no request of the groups below. The three are apart so that the proof of each stays small.
+// The answer to a line that is no request of the groups below. The three are apart so that the proof of each stays
+// small.
 fn answer_others(
     line: &[u8],
     bytes: &mut [u8],

@@ -62,4 +62,5 @@ heldLines p ds cs ps =
 
 abbrev pub Held : SdccFlp → List ℕ → List ℕ → List ℕ → Type 0
 Held p ds cs ps =
-    (slotsOf (p .«matrix_size») ≡ p .slots) × (p .deviations ≤ length ds) × (p .slots ≤ length cs) × (p .slots ≤ length ps)
+    (slotsOf (p .«matrix_size») ≡ p .slots) × (p .deviations ≤ length ds)
+    × (p .slots ≤ length cs) × (p .slots ≤ length ps)

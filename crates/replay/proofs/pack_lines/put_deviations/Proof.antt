@@ -1,4 +1,5 @@
--- `replay::pack_lines::put_deviations` meets its contract: what is held stays within the output, and the deviations are used up.
+-- `replay::pack_lines::put_deviations` meets its contract: what is held stays within the output, and the deviations
+-- are used up.
 -- Assumes nothing.
 use Prim.Native.Nat.{_-_, _≤_}
 use mathlib.Core.Path.{_≡_}

@@ -1,4 +1,5 @@
--- `replay::requests::answer_packs` meets its contract: what a group of requests holds after its answer stays within the output.
+-- `replay::requests::answer_packs` meets its contract: what a group of requests holds after its answer stays within
+-- the output.
 -- Assumes nothing.
 use native.Mathlib.Omega.{arith}
 use borrow.Author.Needs.{needs}

@@ -1,4 +1,5 @@
--- `code::word_of` meets its contract: the sum with 1 is a whole number of 2^-53, up to 2^53 of them from the middle on either way, so that the cast loses nothing.
+-- `code::word_of` meets its contract: the sum with 1 is a whole number of 2^-53, up to 2^53 of them from the middle
+-- on either way, so that the cast loses nothing.
 -- Assumes nothing.
 use mathlib.Core.Path.{_≡_, refl, ap, _∙_}
 use Prim.Native.Nat.{ℕ, _+_, _*_, _/_, _%_, _^_, _≤_}

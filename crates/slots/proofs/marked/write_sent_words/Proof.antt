@@ -1,4 +1,5 @@
--- `marked::write_sent_words` meets its contract: each turn puts eight slots' words over what those before them left, and
+-- `marked::write_sent_words` meets its contract: each turn puts eight slots' words over what those before them left,
+-- and
 -- their byte of the Bit Vector.
 -- Assumes nothing.
 use Prim.Native.Nat.{_-_, _/_, _<_}
