@@ -15,7 +15,7 @@ pub put-bits-end-spec : {M : Type 1} → statement M
 put-bits-end-spec =
     tie.close
     (tie.spec
-    (λ c κs. search needs)
-    (λ c κs. search needs)
+    (λ c κs. tt)
+    (λ c κs. tt)
     (λ c. search needs)
     returns)

@@ -1,5 +1,6 @@
 -- `lines::put_deviation` meets its contract: one piece behind the other.
 -- Assumes nothing.
+use mathlib.Core.Path.{refl}
 use borrow.Author.Needs.{needs}
 use Rattle.text.proofs.Pieces.{put-then}
 use Rattle.report.proofs.lines.put_deviation.Statement.{statement}
@@ -15,8 +16,8 @@ pub put-deviation-spec : {M : Type 1} → statement M
 put-deviation-spec =
     tie.close
     (tie.spec
-    (λ c. search needs)
-    (λ c κs. search needs)
-    (λ c κs. search needs)
+    (λ c. refl)
+    (λ c κs. tt)
+    (λ c κs. tt)
     (λ c. search needs)
     returns)

@@ -35,9 +35,9 @@ pub put-pack-spec : {M : Type 1} → statement M
 put-pack-spec =
     tie.close
     (tie.spec
-    (λ c κs. search needs)
+    (λ c κs. tt)
     slice-aggregate-put-deviations
-    (λ c κs. search needs)
+    (λ c κs. tt)
     put-slots-requires
     (λ c. search needs)
     returns)

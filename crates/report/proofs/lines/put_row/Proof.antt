@@ -52,13 +52,13 @@ put-row-spec =
     (tie.spec
     Inv-loop
     μ-loop
-    (λ c κs. search needs)
+    (λ c κs. tt)
     (λ c. search needs)
     loop-holds
     (λ c. omega (arith, below (c .before)))
     (λ c. omega (arith, below (c .before)))
     (λ c. omega (arith, below (c .before .before)))
-    (λ c κs. search needs)
+    (λ c κs. tt)
     (λ c. omega (arith, below (c .before .before .before .before .before .before)))
     (λ c. search needs)
     (λ c. search needs)

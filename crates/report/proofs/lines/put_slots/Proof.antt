@@ -60,7 +60,7 @@ put-slots-spec =
     (tie.spec
     Inv-loop
     μ-loop
-    (λ c κs. search needs)
+    (λ c κs. tt)
     loop-holds
     put-row-requires
     (λ c. search needs)

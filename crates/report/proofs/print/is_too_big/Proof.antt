@@ -12,7 +12,7 @@ returns : tie.Need-returns
 returns c = rw (lt-ltb maxBytes (length (c .before .before .args .bytes .now)) (omega arith))
 
 peek-matrix-size-requires : tie.Need-peek-matrix-size-requires
-peek-matrix-size-requires c κs = search needs
+peek-matrix-size-requires c κs = tt
 
 enum-known-peek : tie.Need-enum-known-peek
 enum-known-peek c = search needs

@@ -27,4 +27,4 @@ returns-2 c =
     (rw (e, put-whole p (omega arith), zero-add), p .stored ∙ sets-over (printed (a .bytes .now)) (a .out .now) (omega arith))
 
 pub print-pack-spec : {M : Type 1} → statement M
-print-pack-spec = tie.close (tie.spec returns (λ c κs. search needs) (λ c. search needs) returns-2)
+print-pack-spec = tie.close (tie.spec returns (λ c κs. tt) (λ c. search needs) returns-2)

@@ -26,9 +26,9 @@ pub put-printed-spec : {M : Type 1} → statement M
 put-printed-spec =
     tie.close
     (tie.spec
-    (λ c κs. search needs)
+    (λ c κs. tt)
     (λ c. search needs)
-    (λ c κs. search needs)
+    (λ c κs. tt)
     (λ c. search needs)
     returns
     put-read-requires

@@ -1,5 +1,6 @@
 -- `refusal::put_refusal` meets its contract: the row holds what the refusal lists.
 -- Assumes nothing.
+use mathlib.Core.Path.{refl}
 use borrow.Author.Needs.{needs}
 use Rattle.text.proofs.Pieces.{put-then}
 use Rattle.report.proofs.Numbers.{row-count, row-values}
@@ -25,10 +26,10 @@ pub put-refusal-spec : {M : Type 1} → statement M
 put-refusal-spec =
     tie.close
     (tie.spec
-    (λ c κs. search needs)
-    (λ c. search needs)
-    (λ c κs. search needs)
+    (λ c κs. tt)
+    (λ c. refl)
+    (λ c κs. tt)
     put-values-requires
-    (λ c κs. search needs)
+    (λ c κs. tt)
     (λ c. search needs)
     returns)
