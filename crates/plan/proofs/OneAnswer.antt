@@ -3,7 +3,6 @@
 use mathlib.Core.Path.{_≡_, sym, ap, _∙_}
 use Prim.Native.Nat.{ℕ}
 use native.Mathlib.Omega.{arith}
-use Rattle.answers.specs.Listed.{listed}
 use Rattle.answers.specs.OneAnswer.{OneResult}
 use Rattle.answers.proofs.OneToOne.{listed-one}
 use Rattle.plan.specs.declared.pack.Planned.{Planned}

@@ -18,7 +18,7 @@ use Rattle.plan.specs.Listed.{counted, planned}
 use Rattle.plan.specs.Places.{packPlan, planOf}
 use Rattle.plan.specs.Rules.{countRules, rangeRules, planRules}
 use Rattle.plan.specs.Zero.{zerosBefore}
-use Rattle.plan.proofs.Counts.{Counts, counts-tell}
+use Rattle.plan.proofs.Counts.{counts-tell}
 use Rattle.answers.proofs.Outcome.{found-tells, refused-tells, found-where, refused-where}
 
 module _ (n : ℕ) (cs : List ℕ) (L : ℕ) where

@@ -1,6 +1,6 @@
 -- No second answer meets the contract: two that do are the same, with what they leave in lent memory.
 -- Assumes nothing.
-use mathlib.Core.Path.{_≡_, sym, ap, _∙_}
+use mathlib.Core.Path.{sym, ap, _∙_}
 use denote.Ref.{now}
 use Rattle.answers.specs.OneAnswer.{OneAnswer}
 use Rattle.plan.specs.declared.places.Plan.{Plan}

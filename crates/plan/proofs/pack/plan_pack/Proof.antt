@@ -8,7 +8,6 @@ use Rattle.answers.specs.Table.{Answer}
 use Rattle.answers.specs.Listed.{checked}
 use Rattle.answers.specs.Outcome.{found}
 use Rattle.plan.specs.Listed.{countListed, counted}
-use Rattle.plan.specs.Places.{planOf}
 use Rattle.plan.specs.Rules.{countRules, rangeRules}
 use Rattle.plan.specs.Zero.{zerosBefore}
 use Rattle.plan.proofs.Checked.{zeros-le}
