@@ -26,17 +26,17 @@ refusedLine a = named (ascii "refused ") (a .number) ++ numbers (plains (a .carr
 abbrev pub nLine : ℕ → ℕ → ℕ → List ℕ
 nLine n d m = named (ascii "n ") n ++ named (ascii " deviations ") d ++ named (ascii " slots ") m ++ newline
 
--- the end of a line: the bits of a binary64
-abbrev pub bitsEnd : ℕ → List ℕ
-bitsEnd bits = spacedBits bits ++ newline
+-- a name, its numbers, and the bits of a binary64
+abbrev pub bitsLine : List ℕ → List ℕ → ℕ → List ℕ
+bitsLine name values bits = name ++ numbers values ++ spacedBits bits ++ newline
 
 -- row, bits
 abbrev pub sLine : ℕ → ℕ → List ℕ
-sLine i bits = named (ascii "s ") i ++ bitsEnd bits
+sLine i bits = bitsLine (ascii "s") (i ∷ []) bits
 
 -- i, j, presence, bits
 abbrev pub cLine : ℕ → ℕ → ℕ → ℕ → List ℕ
-cLine i j present bits = ascii "c" ++ numbers (i ∷ j ∷ present ∷ []) ++ bitsEnd bits
+cLine i j present bits = bitsLine (ascii "c") (i ∷ j ∷ present ∷ []) bits
 
 abbrev pub deviationLines : List ℕ → List ℕ
 deviationLines ds = joined (length ds) (λ i. sLine i (getD ds i 0))

@@ -6,12 +6,13 @@ use text::put::put_bits;
 use text::put::put_byte;
 use text::put::put_named;
 ghost use mathlib.Core.Path.{_≡_};
+ghost use mathlib.Core.List.{[], _∷_};
 ghost use Prim.Native.Nat.{_+_, _≤_, _<_};
-ghost use lib.ListN.{length};
+ghost use lib.ListN.{length, take};
 ghost use Rattle.layout.specs.Triangle.{slotsOf, slotOf};
 ghost use Rattle.text.specs.Put.{Put};
-ghost use Rattle.report.specs.Lines.{bitsEnd, nLine, sLine, cLine};
-ghost use Rattle.report.specs.Lines.{deviationLines, rowLines, slotLines, Held, heldLines};
+ghost use Rattle.report.specs.Lines.{nLine, bitsLine, deviationLines, rowLines, slotLines};
+ghost use Rattle.report.specs.Lines.{Held, heldLines};
 
 // N, the deviation count and M.
 fn put_counts(rows: usize, deviations: usize, slots: usize, at: usize, out: &mut [u8]) -> usize
@@ -23,19 +24,22 @@ fn put_counts(rows: usize, deviations: usize, slots: usize, at: usize, out: &mut
     put_byte(b'\n', counted, out)
 }
 
-// The end of a line: a space, and the bits of a binary64.
-fn put_bits_end(bits: u64, at: usize, out: &mut [u8]) -> usize
-    ensures { λ r. ⌜ Put (bitsEnd bits) at (now (out .entry)) r (now (out .exit)) ⌝ }
+// A letter, the first `count` of the values, and the bits of a binary64.
+fn put_line(
+    letter: u8,
+    count: usize,
+    values: [u64; 3],
+    bits: u64,
+    at: usize,
+    out: &mut [u8],
+) -> usize
+    requires { ⌜ count ≤ 3 ⌝ }
+    ensures { λ r. ⌜ Put (bitsLine (letter ∷ []) (take count values) bits) at (now (out .entry)) r (now (out .exit)) ⌝ }
 {
-    let next = put_bits(bits, at, out);
-    put_byte(b'\n', next, out)
-}
-
-fn put_deviation(row: usize, bits: u64, at: usize, out: &mut [u8]) -> usize
-    ensures { λ r. ⌜ Put (sLine row bits) at (now (out .entry)) r (now (out .exit)) ⌝ }
-{
-    let rowed = put_named(b"s ", row as u64, at, out);
-    put_bits_end(bits, rowed, out)
+    let named = put_byte(letter, at, out);
+    let valued = put_values(count, values, named, out);
+    let marked = put_bits(bits, valued, out);
+    put_byte(b'\n', marked, out)
 }
 
 fn put_deviations(deviations: &[u64], at: usize, out: &mut [u8]) -> usize
@@ -44,18 +48,10 @@ fn put_deviations(deviations: &[u64], at: usize, out: &mut [u8]) -> usize
     let mut next = within(at, out);
     let mut i: usize = 0;
     while i < deviations.len() {
-        next = put_deviation(i, deviations[i], next, out);
+        next = put_line(b's', 1, [i as u64, 0, 0], deviations[i], next, out);
         i += 1;
     }
     next
-}
-
-fn put_slot(i: usize, j: usize, present: u8, bits: u64, at: usize, out: &mut [u8]) -> usize
-    ensures { λ r. ⌜ Put (cLine i j present bits) at (now (out .entry)) r (now (out .exit)) ⌝ }
-{
-    let named = put_byte(b'c', at, out);
-    let marked = put_values(3, [i as u64, j as u64, present as u64], named, out);
-    put_bits_end(bits, marked, out)
 }
 
 // The slots of row i, whose first is `first`.
@@ -77,7 +73,8 @@ fn put_row(
     let mut slot = first;
     let mut j = i + 1;
     while j < rows {
-        next = put_slot(i, j, presence[slot], correlations[slot], next, out);
+        let values = [i as u64, j as u64, presence[slot] as u64];
+        next = put_line(b'c', 3, values, correlations[slot], next, out);
         slot += 1;
         j += 1;
     }

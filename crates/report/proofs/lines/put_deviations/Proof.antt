@@ -24,7 +24,7 @@ loop-again : tie.Need-loop-again Inv-loop μ-loop
 loop-again c =
     let w = c .before .before in
     let l = w .before .before .before in
-    puts-more (l .before .loop .inv) (l .loop-test .taken) refl (w .put-deviation .ensures)
+    puts-more (l .before .loop .inv) (l .loop-test .taken) refl (w .put-line .ensures)
 
 same-length : tie.Need-same-length Inv-loop μ-loop
 same-length c = put-long (c .before .loop .inv .is)
@@ -42,7 +42,7 @@ put-deviations-spec =
     loop-holds
     (λ c. search needs)
     (λ c. search needs)
-    (λ c κs. tt)
+    (λ c κs. search needs)
     (λ c. search needs)
     (λ c. search needs)
     loop-again

@@ -37,7 +37,7 @@ loop-again c =
     let p = t .before .loop in
     let s = t .before .before .before .before .before .before .before in
     let a = p .inv .1 in
-    let q = rw (the-next a, slot-at a (s .args .rows) (s .pre .1) (s .pre .0)) at (w .put-slot .ensures) in
+    let q = rw (the-next a, slot-at a (s .args .rows) (s .pre .1) (s .pre .0)) at (w .put-line .ensures) in
     (rw (one-more a) (puts-more (p .inv .0) (passed-below a (s .args .rows) (s .pre .1) (t .loop-test .taken)) refl q), along-more a)
 
 same-length : tie.Need-same-length Inv-loop μ-loop
@@ -56,9 +56,10 @@ put-row-spec =
     (λ c. search needs)
     loop-holds
     (λ c. omega (arith, below (c .before)))
+    (λ c. omega (arith, c .shared-slice-known3 .given (c .before .before .loop .slot)))
     (λ c. omega (arith, below (c .before)))
     (λ c. omega (arith, below (c .before .before)))
-    (λ c κs. tt)
+    (λ c κs. search needs)
     (λ c. omega (arith, below (c .before .before .before .before .before .before)))
     (λ c. search needs)
     (λ c. search needs)
