@@ -1,4 +1,6 @@
 //! The arguments: what is done, on which matrix, and how often.
+use text::numeral::Numeral;
+use text::numeral::decimal;
 
 // Each does the four in turn. Idle does nothing, so that what the repetitions themselves cost can be taken off.
 pub(crate) enum Op {
@@ -18,27 +20,14 @@ pub(crate) struct Job {
     pub(crate) reps: usize,
 }
 
-// A number with a digit more, of which the last ten count.
-fn with_digit(value: u64, digit: u8) -> u64 {
-    value % 1_000_000_000 * 10 + (digit % 16) as u64
-}
-
-// The number that ASCII digits spell.
-fn decimal(digits: &[u8]) -> u64 {
-    let mut value: u64 = 0;
-    let mut i: usize = 0;
-    while i < digits.len() {
-        value = with_digit(value, digits[i]);
-        i += 1;
-    }
-    value
-}
-
-// An argument that is a number.
+// An argument that is a number; 0 where it is none.
 fn number(i: usize) -> usize {
-    let mut text = [0u8; 10];
+    let mut text = [0u8; 20];
     let count = os::arg(i, &mut text);
-    decimal(&text[..count]) as usize
+    match decimal(&text[..count], 0) {
+        Numeral::Read { value, next: _ } => value as usize,
+        Numeral::Malformed => 0,
+    }
 }
 
 // The first letter of an argument that is a word.

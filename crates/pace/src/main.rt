@@ -1,34 +1,40 @@
-//! Does one operation of the codec over and over, so that its cost can be measured: pace OP N CLEN KIND REPS
-//! (bench/run).
+//! Does one operation of the codec over and over, so that its cost can be measured: pace OP N CLEN KIND REPS (bench/run).
 mod cells;
 mod figure;
 mod job;
-mod part;
 mod sample;
 mod turns;
 
-use answers::Written;
+use figure::REFUSED;
 use job::Job;
+use layout::pack::SdccFlp;
 use layout::triangle::corr_slots;
-use part::within;
-use part::within_words;
-use writer::write::encode_sdcc_flp_mode2;
+use text::part::within;
+use text::part::within_words;
 
-// The largest pack: N = 256, and Clen = 8.
-const ROWS: usize = 256;
+// The largest pack.
+const ROWS: usize = SdccFlp::MAX_ROWS as usize;
 
-const SLOTS: usize = 32_640;
+const SLOTS: usize = SdccFlp::MAX_SLOTS as usize;
 
-const BYTES: usize = 300_000;
+// A head of 12 bytes at most, 8 bytes to a deviation and to a correlation, and a bit to a slot.
+const BYTES: usize = 12 + 8 * ROWS + 8 * SLOTS + SLOTS / 8;
 
-// Makes the matrix and its pack, and answers the pack's length, or 0 where there is none.
+// A pack's length, or 0 where there is none.
+fn length_of(written: u64) -> usize {
+    if written == REFUSED {
+        0
+    } else {
+        written as usize
+    }
+}
+
+// Makes the matrix and its pack, and answers the pack's length.
 fn make(job: Job, deviations: &mut [u64], correlations: &mut [u64], room: &mut [u8]) -> usize {
     sample::fill_deviations(deviations);
     sample::fill_correlations(correlations, job.sparse);
-    match encode_sdcc_flp_mode2(deviations, correlations, job.clen, room) {
-        Written::Done(length) => length,
-        Written::Refused(_) => 0,
-    }
+    let written = turns::write(deviations, correlations, job.clen, room);
+    length_of(written)
 }
 
 // Does the job; the figure is then taken over all that it leaves.
@@ -57,7 +63,11 @@ fn run(
     let made = make(job, deviations, correlations, room);
     let length = within(made, room);
     let figure = measured(job, deviations, correlations, presence, &mut room[..length]);
-    print(b"pack ", length as u64);
+    report(length as u64, figure);
+}
+
+fn report(length: u64, figure: u64) {
+    print(b"pack ", length);
     print(b" figure ", figure);
     io::write_all(libc::STDOUT_FILENO, b"\n");
 }

@@ -35,7 +35,7 @@ fn read(pack: &[u8], deviations: &mut [u64], correlations: &mut [u64], presence:
     }
 }
 
-fn write(deviations: &[u64], correlations: &[u64], clen: usize, pack: &mut [u8]) -> u64 {
+pub(crate) fn write(deviations: &[u64], correlations: &[u64], clen: usize, pack: &mut [u8]) -> u64 {
     match encode_sdcc_flp_mode2(deviations, correlations, clen, pack) {
         Written::Done(length) => length as u64,
         Written::Refused(_) => REFUSED,
@@ -100,8 +100,7 @@ fn byte_at(bytes: &[u8], turn: usize) -> u8 {
     if at < bytes.len() { bytes[at] } else { 0 }
 }
 
-// Each repetition finds another input, and adds its answer, a correlation and a byte to the figure: some fifty
-// instructions, the same for each operation, which `idle` measures.
+// Each repetition finds another input, and adds its answer, a correlation and a byte to the figure: some fifty instructions, the same for each operation, which `idle` measures.
 pub(crate) fn repeat(
     job: Job,
     deviations: &mut [u64],

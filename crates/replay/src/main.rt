@@ -1,189 +1,94 @@
 //! Answers requests: a line of standard input each, and a line of standard output for each.
+mod answer;
 mod cells;
+mod fields;
+mod forms;
+mod input;
 mod kind;
 mod lent;
-mod line;
+mod lists;
 mod mapped;
 mod numeric;
-mod output;
+mod outcome;
 mod pack_lines;
-mod packs;
-mod part;
 mod prints;
+mod put;
+mod reads;
 mod refusal;
-mod requests;
+mod request;
 mod writes;
 
-// A request of 300,000 bytes in hex, or of 33,300 numbers of 16 digits, with room to spare.
-const LINE: usize = 655_360;
+use answer::answer;
+use input::State;
+use input::flush;
+use input::next_block;
+use input::take_line;
+use layout::pack::SdccFlp;
+use request::read_request;
+use text::part::within;
+use text::put::put_byte;
 
-// No line spells more bytes, and no request is lent more.
-const BYTES: usize = LINE / 2;
+// No request is lent more.
+const BYTES: usize = 600_000;
 
-// The largest pack has 256 deviations and 32,640 slots. A request can be lent more, so that what stands past them
-// shows.
-const DEVIATIONS: usize = 1024;
+// A request of so many bytes in hex, with the words before them, or of 33,300 numbers of 16 digits.
+const LINE: usize = 2 * BYTES + 128;
 
-const SLOTS: usize = 33_792;
+// A request can be lent more than the largest pack has, so that what stands past it shows.
+const ROWS: usize = 4 * SdccFlp::MAX_ROWS as usize;
 
-// How far a block has been taken, how much of a line that gave, and whether a newline ended the line.
-struct Taken {
-    next: usize,
-    read: usize,
-    ended: bool,
+const SLOTS: usize = SdccFlp::MAX_SLOTS as usize + 1152;
+
+// As much is held at most as a block has, and an answer has room behind it.
+const HELD: usize = 65_536;
+
+const OUT: usize = 2 * HELD + LINE;
+
+// How much of a line is a request: nothing of one that fills its room. An empty line is a bad request too.
+fn fitting(read: usize, room: usize) -> usize {
+    if read < room { read } else { 0 }
 }
 
-// One byte more of a line; what it has no room for is dropped.
-fn keep(line: &mut [u8], read: usize, byte: u8) -> usize {
-    if line.len() <= read {
-        return read;
-    }
-    line[read] = byte;
-    read + 1
-}
-
-// Takes the block from a place on, up to a newline or to its end.
-fn take_line(block: &[u8], at: usize, line: &mut [u8], read: usize) -> Taken {
-    let mut next = at;
-    let mut count = read;
-    while next < block.len() {
-        let byte = block[next];
-        next += 1;
-        if byte == b'\n' {
-            return Taken {
-                next,
-                read: count,
-                ended: true,
-            };
-        }
-        count = keep(line, count, byte);
-    }
-    Taken {
-        next,
-        read: count,
-        ended: false,
-    }
-}
-
-// The answer to a line of which so much was read. A line that fills its room is too long.
+// The request, and its answer.
 fn answer_line(
-    line: &[u8],
     read: usize,
-    bytes: &mut [u8],
-    deviations: &mut [u64],
-    correlations: &mut [u64],
-    presence: &mut [u8],
-    out: &mut [u8],
-    held: usize,
-) -> usize {
-    if line.len() <= read {
-        let refused = refusal::bad_request(out, held);
-        return output::put(out, refused, b'\n');
-    }
-    let count = part::within(read, line);
-    let answered = requests::answer(
-        &line[..count],
-        bytes,
-        deviations,
-        correlations,
-        presence,
-        out,
-        held,
-    );
-    output::put(out, answered, b'\n')
-}
-
-// The block has `end` bytes, of which those from `at` on are still to be taken; `read` bytes of a line are taken, and
-// `held` bytes of output are not yet written.
-struct State {
+    line: &mut [u8],
+    words: &mut [u64],
     at: usize,
-    end: usize,
-    read: usize,
-    held: usize,
-    more: bool,
+    out: &mut [u8],
+) -> usize {
+    let count = within(fitting(read, line.len()), line);
+    let request = read_request(&mut line[..count], words);
+    let answered = answer(request, line, words, at, out);
+    put_byte(b'\n', answered, out)
 }
 
-// Answers a line of the block, or reads the next block. What is held is written before that, so that whoever asks
-// line by line is answered at once.
+// What is held is written out when there is much of it.
+fn held(at: usize, out: &[u8]) -> usize {
+    if HELD < at {
+        flush(at, out);
+        return 0;
+    }
+    at
+}
+
+// Answers a line of the block, or reads the next block.
 fn turn(
     block: &mut [u8],
     line: &mut [u8],
-    bytes: &mut [u8],
-    deviations: &mut [u64],
-    correlations: &mut [u64],
-    presence: &mut [u8],
+    words: &mut [u64],
     out: &mut [u8],
     state: State,
 ) -> State {
-    let end = part::within(state.end, block);
-    let taken = take_line(&block[..end], state.at, line, state.read);
+    let mut taken = take_line(block, line, state);
     if taken.ended {
-        let held = answer_line(
-            line,
-            taken.read,
-            bytes,
-            deviations,
-            correlations,
-            presence,
-            out,
-            state.held,
-        );
-        return State {
-            at: taken.next,
-            end,
-            read: 0,
-            held,
-            more: true,
-        };
+        let at = answer_line(taken.read, line, words, taken.held, out);
+        taken.held = held(at, out);
+        taken.read = 0;
+        taken.ended = false;
+        return taken;
     }
-    let held = output::flush(out, state.held);
-    let got = libc::read(libc::STDIN_FILENO, block);
-    let count = io::count(got, block);
-    State {
-        at: 0,
-        end: count,
-        read: taken.read,
-        held,
-        more: 0 < count,
-    }
-}
-
-// Answers how much was read of a last line that no newline ends. The turns are counted down, from a number that no
-// run uses up, since nothing says that the input ends.
-fn answer_all(
-    block: &mut [u8],
-    line: &mut [u8],
-    bytes: &mut [u8],
-    deviations: &mut [u64],
-    correlations: &mut [u64],
-    presence: &mut [u8],
-    out: &mut [u8],
-) -> usize {
-    let mut state = State {
-        at: 0,
-        end: 0,
-        read: 0,
-        held: 0,
-        more: true,
-    };
-    let mut turns = u64::MAX;
-    while 0 < turns {
-        turns -= 1;
-        state = turn(
-            block,
-            line,
-            bytes,
-            deviations,
-            correlations,
-            presence,
-            out,
-            state,
-        );
-        if !state.more {
-            return state.read;
-        }
-    }
-    state.read
+    next_block(block, out, taken)
 }
 
 // The arrays come from calls: the check would count the elements of one that `main` makes itself.
@@ -191,50 +96,34 @@ fn room_for_line() -> [u8; LINE] {
     [0; LINE]
 }
 
-fn room_for_bytes() -> [u8; BYTES] {
-    [0; BYTES]
+fn room_for_words() -> [u64; ROWS + SLOTS] {
+    [0; ROWS + SLOTS]
 }
 
-fn room_for_deviations() -> [u64; DEVIATIONS] {
-    [0; DEVIATIONS]
+fn room_for_output() -> [u8; OUT] {
+    [0; OUT]
 }
 
-fn room_for_correlations() -> [u64; SLOTS] {
-    [0; SLOTS]
-}
-
-fn room_for_presence() -> [u8; SLOTS] {
-    [0; SLOTS]
-}
-
+// The turns are counted down, from a number that no run uses up, since nothing says that the input ends.
 fn main() {
     let mut block = io::large_buffer();
     let mut line = room_for_line();
-    let mut bytes = room_for_bytes();
-    let mut deviations = room_for_deviations();
-    let mut correlations = room_for_correlations();
-    let mut presence = room_for_presence();
-    let mut out = io::large_buffer();
-    let read = answer_all(
-        &mut block,
-        &mut line,
-        &mut bytes,
-        &mut deviations,
-        &mut correlations,
-        &mut presence,
-        &mut out,
-    );
-    if 0 < read {
-        let held = answer_line(
-            &line,
-            read,
-            &mut bytes,
-            &mut deviations,
-            &mut correlations,
-            &mut presence,
-            &mut out,
-            0,
-        );
-        output::flush(&out, held);
+    let mut words = room_for_words();
+    let mut out = room_for_output();
+    let mut state = State {
+        at: 0,
+        end: 0,
+        read: 0,
+        ended: false,
+        held: 0,
+        over: false,
+    };
+    let mut turns = u64::MAX;
+    while 0 < turns {
+        turns -= 1;
+        state = turn(&mut block, &mut line, &mut words, &mut out, state);
+        if state.over {
+            return;
+        }
     }
 }

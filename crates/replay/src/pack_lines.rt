@@ -1,37 +1,34 @@
-//! The lines of a pack that was read, with `;` between them: n, then an s for each deviation, then a c for each slot.
-use crate::output;
-use crate::part::within;
-use crate::part::within_words;
+//! The lines of a pack that was read, each behind a `;`: an s for each deviation, then a c for each slot.
+use crate::forms::DEVIATION;
+use crate::forms::EMPTY;
+use crate::forms::SLOT;
+use crate::put::Answer;
+use crate::put::put_answer;
+use crate::put::words;
 use layout::pack::SdccFlp;
-ghost use Prim.Native.Nat.{_≤_};
-ghost use lib.ListN.{length};
 
-// N, the deviations and the slots.
-fn put_counts(out: &mut [u8], held: usize, pack: SdccFlp) -> usize
-    ensures { λ r. ⌜ r ≤ length (now (out .entry)) ⌝ }
-{
-    let sized = output::put_named(out, held, b"n", pack.matrix_size);
-    let rowed = output::put_named(out, sized, b" deviations", pack.deviations as u64);
-    output::put_named(out, rowed, b" slots", pack.slots as u64)
+// The line of a deviation; nothing past them all.
+fn deviation(row: usize, deviations: &[u64]) -> Answer {
+    if deviations.len() <= row {
+        return words(EMPTY);
+    }
+    Answer {
+        form: DEVIATION,
+        a: row as u64,
+        b: deviations[row],
+        c: 0,
+        d: 0,
+    }
 }
 
-fn put_deviation(out: &mut [u8], held: usize, row: u64, bits: u64) -> usize
-    ensures { λ r. ⌜ r ≤ length (now (out .entry)) ⌝ }
-{
-    let named = output::put_named(out, held, b";s", row);
-    output::put_bits(out, named, bits)
-}
-
-fn put_deviations(out: &mut [u8], held: usize, deviations: &[u64]) -> usize
-    ensures { λ r. ⌜ r ≤ length (now (out .entry)) ⌝ }
-{
-    let mut at = within(held, out);
+pub(crate) fn put_deviations(count: usize, deviations: &[u64], at: usize, out: &mut [u8]) -> usize {
+    let mut next = at;
     let mut i: usize = 0;
-    while i < deviations.len() {
-        at = put_deviation(out, at, i as u64, deviations[i]);
+    while i < count {
+        next = put_answer(deviation(i, deviations), next, out);
         i += 1;
     }
-    at
+    next
 }
 
 // Where a slot's pair stands.
@@ -55,52 +52,41 @@ fn next_cell(cell: Cell, size: u64) -> Cell {
     }
 }
 
-fn put_slot(out: &mut [u8], held: usize, cell: Cell, present: u8, bits: u64) -> usize
-    ensures { λ r. ⌜ r ≤ length (now (out .entry)) ⌝ }
-{
-    let rowed = output::put_named(out, held, b";c", cell.i);
-    let paired = output::put_whole(out, rowed, cell.j);
-    let marked = output::put_whole(out, paired, present as u64);
-    output::put_bits(out, marked, bits)
+fn wide(flag: u8) -> u64 {
+    flag as u64
 }
 
-fn put_slots(out: &mut [u8], held: usize, size: u64, correlations: &[u64], presence: &[u8]) -> usize
-    ensures { λ r. ⌜ r ≤ length (now (out .entry)) ⌝ }
-{
-    let mut at = within(held, out);
-    let mut cell = Cell { i: 0, j: 1 };
-    let mut k: usize = 0;
-    while k < correlations.len() {
-        if presence.len() <= k {
-            return at;
-        }
-        at = put_slot(out, at, cell, presence[k], correlations[k]);
-        cell = next_cell(cell, size);
-        k += 1;
+// The line of a slot; nothing past them all.
+fn slot(k: usize, cell: Cell, correlations: &[u64], presence: &[u8]) -> Answer {
+    if correlations.len() <= k {
+        return words(EMPTY);
     }
-    at
+    if presence.len() <= k {
+        return words(EMPTY);
+    }
+    Answer {
+        form: SLOT,
+        a: cell.i,
+        b: cell.j,
+        c: wide(presence[k]),
+        d: correlations[k],
+    }
 }
 
-// All of them.
-pub(crate) fn put_pack(
-    out: &mut [u8],
-    held: usize,
+pub(crate) fn put_slots(
     pack: SdccFlp,
-    deviations: &[u64],
     correlations: &[u64],
     presence: &[u8],
-) -> usize
-    ensures { λ r. ⌜ r ≤ length (now (out .entry)) ⌝ }
-{
-    let rows = within_words(pack.deviations, deviations);
-    let slots = within_words(pack.slots, correlations);
-    let counted = put_counts(out, held, pack);
-    let rowed = put_deviations(out, counted, &deviations[..rows]);
-    put_slots(
-        out,
-        rowed,
-        pack.matrix_size,
-        &correlations[..slots],
-        presence,
-    )
+    at: usize,
+    out: &mut [u8],
+) -> usize {
+    let mut next = at;
+    let mut cell = Cell { i: 0, j: 1 };
+    let mut k: usize = 0;
+    while k < pack.slots {
+        next = put_answer(slot(k, cell, correlations, presence), next, out);
+        cell = next_cell(cell, pack.matrix_size);
+        k += 1;
+    }
+    next
 }

@@ -1,164 +1,53 @@
-//! The request that writes a pack: write.
-use crate::lent;
-use crate::line;
-use crate::line::Number;
-use crate::line::Place;
-use crate::output::Answered;
-use crate::part::within;
-use crate::part::within_words;
-use crate::refusal::bad_request;
+//! The requests that write into what is lent: map, special, write.
+use crate::forms::DONE;
+use crate::forms::WRITE;
+use crate::kind::special_of;
+use crate::lent::mark;
+use crate::lists::correlations;
+use crate::lists::deviations;
+use crate::outcome::put_written;
+use crate::request::Request;
 use answers::Written;
+use imapb::encode::encode_imapb;
+use imapb::special::encode_imapb_special;
+use text::part::within;
 use writer::write::encode_sdcc_flp;
 use writer::write::encode_sdcc_flp_mode2;
-ghost use Prim.Native.Nat.{_≤_};
-ghost use lib.ListN.{length};
-ghost use Rattle.replay.specs.Output.{Kept};
 
-// The Clen that a request names, or that it asks the writer that takes none.
-enum Clen {
-    Named(usize),
-    Unnamed,
-}
-
-fn encode(clen: Clen, deviations: &[u64], correlations: &[u64], lent: &mut [u8]) -> Written {
-    match clen {
-        Clen::Named(length) => encode_sdcc_flp_mode2(deviations, correlations, length, lent),
-        Clen::Unnamed => encode_sdcc_flp(deviations, correlations, lent),
+// A pack, by the writer that takes a Clen or by the one that takes none.
+fn write_pack(request: Request, lists: &[u64], lent: &mut [u8]) -> Written {
+    let rows = deviations(lists, request.rows);
+    let slots = correlations(lists, request.slots);
+    if request.form == WRITE {
+        encode_sdcc_flp_mode2(rows, slots, request.size as usize, lent)
+    } else {
+        encode_sdcc_flp(rows, slots, lent)
     }
 }
 
-// The pack, into what is lent.
-fn put_pack(
-    out: &mut [u8],
-    held: usize,
-    clen: Clen,
-    deviations: &[u64],
-    correlations: &[u64],
-    lent: &mut [u8],
-) -> usize
-    ensures { λ r. ⌜ r ≤ length (now (out .entry)) ⌝ }
-{
-    lent::mark(lent);
-    let written = encode(clen, deviations, correlations, lent);
-    lent::put_written(out, held, written, lent)
-}
-
-// COUNT BITS.. COUNT BITS..
-fn write_lists(
-    line: &[u8],
-    at: usize,
-    clen: Clen,
-    lent: &mut [u8],
-    deviations: &mut [u64],
-    correlations: &mut [u64],
-    out: &mut [u8],
-    held: usize,
-) -> usize
-    ensures { λ r. ⌜ r ≤ length (now (out .entry)) ⌝ }
-{
-    let first = line::list_before_space(line, at, deviations);
-    let Number::Read { value: rows, next } = first else {
-        return bad_request(out, held);
-    };
-    let second = line::list(line, next, correlations);
-    let Number::Read { value: slots, next } = second else {
-        return bad_request(out, held);
-    };
-    if next != line.len() {
-        return bad_request(out, held);
+fn write(request: Request, lists: &[u64], lent: &mut [u8]) -> Written {
+    let form = request.form;
+    match form {
+        9 => encode_imapb(request.size as usize, request.value, lent),
+        10 | 11 => write_pack(request, lists, lent),
+        _ => encode_imapb_special(special_of(form, request.value), request.size as usize, lent),
     }
-    let rows = within_words(rows as usize, deviations);
-    let slots = within_words(slots as usize, correlations);
-    put_pack(
-        out,
-        held,
-        clen,
-        &deviations[..rows],
-        &correlations[..slots],
-        lent,
-    )
 }
 
-// ROOM COUNT BITS.. COUNT BITS..
-fn lend(
-    line: &[u8],
-    at: usize,
-    clen: Clen,
+fn fill(request: Request, lists: &[u64], lent: &mut [u8], at: usize, out: &mut [u8]) -> usize {
+    mark(lent);
+    let written = write(request, lists, lent);
+    put_written(DONE, written, lent, at, out)
+}
+
+// As much is lent as the request says.
+pub(crate) fn put_write(
+    request: Request,
+    lists: &[u64],
     bytes: &mut [u8],
-    deviations: &mut [u64],
-    correlations: &mut [u64],
-    out: &mut [u8],
-    held: usize,
-) -> usize
-    ensures { λ r. ⌜ r ≤ length (now (out .entry)) ⌝ }
-{
-    let number = line::decimal_before_space(line, at);
-    let Number::Read { value: room, next } = number else {
-        return bad_request(out, held);
-    };
-    if (bytes.len() as u64) < room {
-        return bad_request(out, held);
-    }
-    let lent = within(room as usize, bytes);
-    write_lists(
-        line,
-        next,
-        clen,
-        &mut bytes[..lent],
-        deviations,
-        correlations,
-        out,
-        held,
-    )
-}
-
-// write CLEN ROOM COUNT BITS.. COUNT BITS..
-fn write(
-    line: &[u8],
     at: usize,
-    bytes: &mut [u8],
-    deviations: &mut [u64],
-    correlations: &mut [u64],
     out: &mut [u8],
-    held: usize,
-) -> usize
-    ensures { λ r. ⌜ r ≤ length (now (out .entry)) ⌝ }
-{
-    let dash = line::past(line, at, b"- ");
-    if let Place::At(next) = dash {
-        return lend(
-            line,
-            next,
-            Clen::Unnamed,
-            bytes,
-            deviations,
-            correlations,
-            out,
-            held,
-        );
-    }
-    let number = line::decimal_before_space(line, at);
-    let Number::Read { value, next } = number else {
-        return bad_request(out, held);
-    };
-    let clen = Clen::Named(value as usize);
-    lend(line, next, clen, bytes, deviations, correlations, out, held)
-}
-
-// The answer to a line that is this request.
-pub(crate) fn answer(
-    line: &[u8],
-    bytes: &mut [u8],
-    deviations: &mut [u64],
-    correlations: &mut [u64],
-    out: &mut [u8],
-    held: usize,
-) -> Answered
-    ensures { λ r. ⌜ Kept (length (now (out .entry))) r ⌝ }
-{
-    let after_write = line::past(line, 0, b"write ");
-    if let Place::At(at) = after_write {
-        return Answered::Held(write(line, at, bytes, deviations, correlations, out, held));
-    }
-    Answered::Nothing
+) -> usize {
+    let room = within(request.room as usize, bytes);
+    fill(request, lists, &mut bytes[..room], at, out)
 }

@@ -1,7 +1,6 @@
--- `replay::pack_lines::put_deviations` meets its contract: what is held stays within the output, and the deviations
--- are used up.
+-- `replay::pack_lines::put_deviations` is safe and ends: the output keeps its length, and the deviations are used up.
 -- Assumes nothing.
-use Prim.Native.Nat.{_-_, _≤_}
+use Prim.Native.Nat.{_-_}
 use mathlib.Core.Path.{_≡_}
 use borrow.Author.Needs.{needs}
 use lib.ListN.{length}
@@ -9,10 +8,10 @@ use Rattle.replay.proofs.pack_lines.put_deviations.Statement.{statement
 use Rattle.replay.proofs.pack_lines.put_deviations.Tie as tie
 
 abbrev Inv-loop : tie.InvT-loop
-Inv-loop out₀ held deviations at₀ i₀ out at i = (at ≤ length out) × (length out ≡ length out₀)
+Inv-loop count deviations at out₀ next₀ i₀ out next i = length out ≡ length out₀
 
 abbrev μ-loop : tie.MeasureT-loop
-μ-loop out₀ held deviations at₀ i₀ out at i = length deviations - i
+μ-loop count deviations at out₀ next₀ i₀ out next i = count - i
 
 pub put-deviations-spec : {M : Type 1} → statement M
 put-deviations-spec =
@@ -20,10 +19,8 @@ put-deviations-spec =
     (tie.spec
     Inv-loop
     μ-loop
+    (λ c. search needs)
     (λ c κs. search needs)
-    (λ c. search needs)
-    (λ c. search needs)
-    (λ c. search needs)
     (λ c κs. search needs)
     (λ c. search needs)
     (λ c. search needs)

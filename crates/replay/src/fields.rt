@@ -1,0 +1,140 @@
+//! The fields of a request, each read from a place of its line on.
+use crate::BYTES;
+use crate::ROWS;
+use crate::SLOTS;
+use text::numeral::Numeral;
+use text::numeral::decimal;
+use text::numeral::hex;
+use text::part::within_words;
+
+// Past a byte, where the line has it; its value is 0.
+fn literal(byte: u8, line: &[u8], at: usize) -> Numeral {
+    if at < line.len() {
+        if line[at] == byte {
+            return Numeral::Read {
+                value: 0,
+                next: at + 1,
+            };
+        }
+    }
+    Numeral::Malformed
+}
+
+// The line's end, where nothing is left.
+fn end(line: &[u8], at: usize) -> Numeral {
+    if at == line.len() {
+        Numeral::Read { value: 0, next: at }
+    } else {
+        Numeral::Malformed
+    }
+}
+
+// A decimal number up to a limit.
+fn decimal_up_to(most: u64, line: &[u8], at: usize) -> Numeral {
+    let number = decimal(line, at);
+    let Numeral::Read { value, next } = number else {
+        return Numeral::Malformed;
+    };
+    if most < value {
+        return Numeral::Malformed;
+    }
+    Numeral::Read { value, next }
+}
+
+// The byte string of so many bytes, up to a place. One that is empty is spelled `-`.
+fn spelled(count: usize, line: &[u8], next: usize) -> Numeral {
+    if count == 0 {
+        return literal(b'-', line, next);
+    }
+    Numeral::Read {
+        value: count as u64,
+        next,
+    }
+}
+
+// The bytes that pairs of hex digits spell, into the front of the line itself, which has been read that far.
+fn byte_string(line: &mut [u8], at: usize) -> Numeral {
+    let mut next = at;
+    let mut count: usize = 0;
+    while count < line.len() {
+        let pair = hex(line, next, 2);
+        let Numeral::Read { value, next: after } = pair else {
+            return spelled(count, line, next);
+        };
+        line[count] = (value % 256) as u8;
+        next = after;
+        count += 1;
+    }
+    Numeral::Malformed
+}
+
+// A space and the bits of a number after it.
+fn bits_after_space(line: &[u8], at: usize) -> Numeral {
+    let space = literal(b' ', line, at);
+    let Numeral::Read { value: _, next } = space else {
+        return Numeral::Malformed;
+    };
+    hex(line, next, 16)
+}
+
+// As many numbers as the list has entries, each after a space.
+fn entries(line: &[u8], at: usize, list: &mut [u64]) -> Numeral {
+    let mut next = at;
+    let mut i: usize = 0;
+    while i < list.len() {
+        let number = bits_after_space(line, next);
+        let Numeral::Read { value, next: after } = number else {
+            return Numeral::Malformed;
+        };
+        list[i] = value;
+        next = after;
+        i += 1;
+    }
+    Numeral::Read {
+        value: list.len() as u64,
+        next,
+    }
+}
+
+// The list, into the front of `room`: its count, and then its entries.
+fn list(line: &[u8], at: usize, room: &mut [u64]) -> Numeral {
+    let number = decimal_up_to(room.len() as u64, line, at);
+    let Numeral::Read { value: count, next } = number else {
+        return Numeral::Malformed;
+    };
+    let listed = within_words(count as usize, room);
+    entries(line, next, &mut room[..listed])
+}
+
+// The most that a field's number may be: a room is at most what there is.
+fn most(letter: u8) -> u64 {
+    match letter {
+        b'D' => ROWS as u64,
+        b'E' | b'F' => SLOTS as u64,
+        b'R' => BYTES as u64,
+        _ => u64::MAX,
+    }
+}
+
+// The number that a letter stands for, or the letter itself.
+fn number(letter: u8, line: &[u8], at: usize) -> Numeral {
+    match letter {
+        b'W' => hex(line, at, 8),
+        b'X' => hex(line, at, 16),
+        b'A'..=b'V' => decimal_up_to(most(letter), line, at),
+        b'.' => end(line, at),
+        b',' => Numeral::Read { value: 0, next: at },
+        _ => literal(letter, line, at),
+    }
+}
+
+// What a letter stands for. The deviations go into the first ROWS of the words, the correlations behind them.
+pub(crate) fn field(letter: u8, line: &mut [u8], at: usize, words: &mut [u64]) -> Numeral {
+    let rows = within_words(ROWS, words);
+    match letter {
+        b'H' => byte_string(line, at),
+        b'S' => list(line, at, &mut words[..rows]),
+        b'C' => list(line, at, &mut words[rows..]),
+        _ => number(letter, line, at),
+    }
+}

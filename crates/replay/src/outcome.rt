@@ -1,0 +1,65 @@
+//! What a function that writes into lent bytes answers, and what it leaves there.
+use crate::forms::DONE;
+use crate::lent::changed;
+use crate::lent::put_touched;
+use crate::put::Answer;
+use crate::put::one;
+use crate::put::put_answer;
+use crate::refusal::refused;
+use answers::Written;
+use text::part::within;
+use text::put::put_byte;
+use text::put::put_hex;
+
+// How many bytes it was to write.
+fn used(written: Written) -> usize {
+    match written {
+        Written::Done(count) => count,
+        Written::Refused(_) => 0,
+    }
+}
+
+fn outcome(form: usize, written: Written) -> Answer {
+    match written {
+        Written::Done(count) => one(form, count as u64),
+        Written::Refused(refusal) => refused(refusal),
+    }
+}
+
+// A byte of a text: lines are joined by `;`.
+fn shown(byte: u8) -> u8 {
+    if byte == b'\n' { b';' } else { byte }
+}
+
+// A byte of what is done is in hex; any other is of a text.
+fn put_shown(form: usize, byte: u8, at: usize, out: &mut [u8]) -> usize {
+    if form == DONE {
+        put_hex(byte as u64, 2, at, out)
+    } else {
+        put_byte(shown(byte), at, out)
+    }
+}
+
+fn put_bytes(form: usize, bytes: &[u8], at: usize, out: &mut [u8]) -> usize {
+    let mut next = at;
+    let mut i: usize = 0;
+    while i < bytes.len() {
+        next = put_shown(form, bytes[i], next, out);
+        i += 1;
+    }
+    next
+}
+
+// The form is that of what is done. No code and no pack is empty, so that it has digits.
+pub(crate) fn put_written(
+    form: usize,
+    written: Written,
+    lent: &[u8],
+    at: usize,
+    out: &mut [u8],
+) -> usize {
+    let count = within(used(written), lent);
+    let said = put_answer(outcome(form, written), at, out);
+    let shown = put_bytes(form, &lent[..count], said, out);
+    put_touched(changed(lent, count), shown, out)
+}
