@@ -1,4 +1,5 @@
-//! Does one operation of the codec over and over, so that its cost can be measured: pace OP N CLEN KIND REPS (bench/run).
+//! Does one operation of the codec over and over, so that its cost can be measured (bench/run):
+//! pace OP N CLEN KIND REPS.
 mod cells;
 mod figure;
 mod job;

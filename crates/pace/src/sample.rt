@@ -26,7 +26,8 @@ fn correlation(k: usize) -> u64 {
     over_1000_5(spread - 1000)
 }
 
-// A number up to 1,000 over 1000.5, as a whole number of 2^-30, so that it has more digits than the shorter codes keep; 0 has no exponent to take from.
+// A number up to 1,000 over 1000.5, as a whole number of 2^-30, so that it has more digits than the shorter codes
+// keep; 0 has no exponent to take from.
 fn over_1000_5(size: u64) -> u64 {
     if size == 0 {
         return 0;

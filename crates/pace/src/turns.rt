@@ -100,7 +100,8 @@ fn byte_at(bytes: &[u8], turn: usize) -> u8 {
     if at < bytes.len() { bytes[at] } else { 0 }
 }
 
-// Each repetition finds another input, and adds its answer, a correlation and a byte to the figure: some fifty instructions, the same for each operation, which `idle` measures.
+// Each repetition finds another input, and adds its answer, a correlation and a byte to the figure: some fifty
+// instructions, the same for each operation, which `idle` measures.
 pub(crate) fn repeat(
     job: Job,
     deviations: &mut [u64],

@@ -39,11 +39,17 @@ fn short(request: Request, given: &[u8], lists: &[u64]) -> Answer {
 }
 
 // The requests that leave the bytes that they are given as they are.
-fn answer_given(request: Request, given: &[u8], lists: &[u64], at: usize, out: &mut [u8]) -> usize {
+fn answer_given(
+    request: Request,
+    given: &[u8],
+    lists: &mut [u64],
+    at: usize,
+    out: &mut [u8],
+) -> usize {
     let form = request.form;
     match form {
         7 => put_print(given, at, out),
-        8 => put_read(request, given, at, out),
+        8 => put_read(request, given, lists, at, out),
         _ => put_answer(short(request, given, lists), at, out),
     }
 }
@@ -52,7 +58,7 @@ fn answer_given(request: Request, given: &[u8], lists: &[u64], at: usize, out: &
 pub(crate) fn answer(
     request: Request,
     bytes: &mut [u8],
-    lists: &[u64],
+    lists: &mut [u64],
     at: usize,
     out: &mut [u8],
 ) -> usize {

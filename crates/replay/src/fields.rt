@@ -128,13 +128,21 @@ fn number(letter: u8, line: &[u8], at: usize) -> Numeral {
     }
 }
 
-// What a letter stands for. The deviations go into the first ROWS of the words, the correlations behind them.
-pub(crate) fn field(letter: u8, line: &mut [u8], at: usize, words: &mut [u64]) -> Numeral {
+// The deviations go into the first ROWS of the words, the correlations behind them.
+fn list_of(letter: u8, line: &[u8], at: usize, words: &mut [u64]) -> Numeral {
     let rows = within_words(ROWS, words);
+    if letter == b'S' {
+        list(line, at, &mut words[..rows])
+    } else {
+        list(line, at, &mut words[rows..])
+    }
+}
+
+// What a letter stands for.
+pub(crate) fn field(letter: u8, line: &mut [u8], at: usize, words: &mut [u64]) -> Numeral {
     match letter {
         b'H' => byte_string(line, at),
-        b'S' => list(line, at, &mut words[..rows]),
-        b'C' => list(line, at, &mut words[rows..]),
+        b'S' | b'C' => list_of(letter, line, at, words),
         _ => number(letter, line, at),
     }
 }

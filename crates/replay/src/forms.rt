@@ -50,15 +50,11 @@ const FORMS: [u8; 1056] = *b"\
 
 pub(crate) const WIDTH: usize = 24;
 
-// The requests come first: those whose answer is a form, then print and read, then those that write.
+// The requests come first: 0 to 6 are answered by a form, 7 and 8 are print and read, and 9 to 20 write,
+// from 12 on the special kinds.
 pub(crate) const CELL: usize = 5;
 
-pub(crate) const MAP: usize = 9;
-
 pub(crate) const WRITE: usize = 11;
-
-// The special kinds, in their order (kind.rt).
-pub(crate) const SPECIAL: usize = 12;
 
 // What is none of them is answered by this form, and the other answers follow.
 pub(crate) const BAD_REQUEST: usize = 21;
@@ -106,4 +102,11 @@ pub(crate) const TOUCHED: usize = 43;
 pub(crate) fn letter(form: usize, i: usize) -> u8 {
     let at = form % 64 * WIDTH + i % WIDTH;
     if at < FORMS.len() { FORMS[at] } else { b'.' }
+}
+
+pub(crate) fn is_field(letter: u8) -> bool {
+    match letter {
+        b'A'..=b'Z' => true,
+        _ => false,
+    }
 }

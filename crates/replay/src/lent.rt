@@ -3,6 +3,8 @@ use crate::forms::EMPTY;
 use crate::forms::TOUCHED;
 use crate::put::put_answer;
 use crate::put::words;
+use text::part::within;
+use text::part::within_words;
 
 pub(crate) const MARK: u8 = 0xa5;
 
@@ -17,10 +19,21 @@ pub(crate) fn mark(lent: &mut [u8]) {
     }
 }
 
-// Whether an entry from a place on is without the mark.
-pub(crate) fn changed(lent: &[u8], from: usize) -> bool {
+// The mark goes into the first words, so many.
+pub(crate) fn mark_words(lent: &mut [u64], count: u64) {
+    let end = within_words(count as usize, lent);
+    let mut i: usize = 0;
+    while i < end {
+        lent[i] = WORD;
+        i += 1;
+    }
+}
+
+// Whether one of the first entries, so many, is without the mark, from a place on.
+pub(crate) fn changed(lent: &[u8], from: usize, count: u64) -> bool {
+    let end = within(count as usize, lent);
     let mut i = from;
-    while i < lent.len() {
+    while i < end {
         if lent[i] != MARK {
             return true;
         }
@@ -30,9 +43,10 @@ pub(crate) fn changed(lent: &[u8], from: usize) -> bool {
 }
 
 // The same of words.
-pub(crate) fn words_changed(lent: &[u64], from: usize) -> bool {
+pub(crate) fn words_changed(lent: &[u64], from: usize, count: u64) -> bool {
+    let end = within_words(count as usize, lent);
     let mut i = from;
-    while i < lent.len() {
+    while i < end {
         if lent[i] != WORD {
             return true;
         }

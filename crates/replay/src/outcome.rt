@@ -44,8 +44,9 @@ fn put_bytes(form: usize, bytes: &[u8], at: usize, out: &mut [u8]) -> usize {
     let mut next = at;
     let mut i: usize = 0;
     while i < bytes.len() {
-        next = put_shown(form, bytes[i], next, out);
+        let byte = bytes[i];
         i += 1;
+        next = put_shown(form, byte, next, out);
     }
     next
 }
@@ -61,5 +62,5 @@ pub(crate) fn put_written(
     let count = within(used(written), lent);
     let said = put_answer(outcome(form, written), at, out);
     let shown = put_bytes(form, &lent[..count], said, out);
-    put_touched(changed(lent, count), shown, out)
+    put_touched(changed(lent, count, lent.len() as u64), shown, out)
 }

@@ -2,6 +2,7 @@
 use crate::forms::EMPTY;
 use crate::lent::MARK;
 use crate::outcome::put_written;
+use answers::Written;
 use report::print::print_pack;
 
 // What any text has room in, and more, so that what stands past it shows.
@@ -12,8 +13,13 @@ fn room_for_text() -> [u8; TEXT] {
     [MARK; TEXT]
 }
 
+// A call of its own, so that what its contract says is weighed once.
+fn print(pack: &[u8], text: &mut [u8]) -> Written {
+    print_pack(pack, text)
+}
+
 pub(crate) fn put_print(pack: &[u8], at: usize, out: &mut [u8]) -> usize {
     let mut text = room_for_text();
-    let printed = print_pack(pack, &mut text);
+    let printed = print(pack, &mut text);
     put_written(EMPTY, printed, &text, at, out)
 }

@@ -1,5 +1,6 @@
 //! An answer, put by its form.
 use crate::forms::WIDTH;
+use crate::forms::is_field;
 use crate::forms::letter;
 use text::put::put_byte;
 use text::put::put_decimal;
@@ -39,13 +40,30 @@ fn value(answer: Answer, letter: u8) -> u64 {
     }
 }
 
+// How many hex digits a field has; one in decimal has none.
+fn hex_digits(letter: u8) -> usize {
+    match letter {
+        b'W' => 8,
+        b'X'..=b'Z' => 16,
+        _ => 0,
+    }
+}
+
+fn put_value(letter: u8, value: u64, at: usize, out: &mut [u8]) -> usize {
+    let digits = hex_digits(letter);
+    if 0 < digits {
+        put_hex(value, digits, at, out)
+    } else {
+        put_decimal(value, at, out)
+    }
+}
+
 // A field's value, or the letter itself.
 fn put_letter(letter: u8, value: u64, at: usize, out: &mut [u8]) -> usize {
-    match letter {
-        b'A'..=b'D' | b'P' => put_decimal(value, at, out),
-        b'W' => put_hex(value, 8, at, out),
-        b'X'..=b'Z' => put_hex(value, 16, at, out),
-        _ => put_byte(letter, at, out),
+    if is_field(letter) {
+        put_value(letter, value, at, out)
+    } else {
+        put_byte(letter, at, out)
     }
 }
 

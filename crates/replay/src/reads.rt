@@ -17,13 +17,9 @@ use reader::read::decode_sdcc_flp;
 use text::part::within;
 use text::part::within_words;
 
-// The rooms have the mark in every entry.
+// These rooms have the mark in every entry; the correlations are too many to be marked anew for each request.
 fn room_for_deviations() -> [u64; ROWS] {
     [WORD; ROWS]
-}
-
-fn room_for_correlations() -> [u64; SLOTS] {
-    [WORD; SLOTS]
 }
 
 fn room_for_presence() -> [u8; SLOTS] {
@@ -55,18 +51,25 @@ fn pack_of(read: ReadAnswer) -> SdccFlp {
     }
 }
 
-// Whether an entry past those of the pack is without its mark.
-fn changed(pack: SdccFlp, deviations: &[u64], correlations: &[u64], presence: &[u8]) -> bool {
-    if lent::words_changed(deviations, pack.deviations) {
+// Whether an entry that was lent, past those of the pack, is without its mark.
+fn changed(
+    request: Request,
+    pack: SdccFlp,
+    deviations: &[u64],
+    correlations: &[u64],
+    presence: &[u8],
+) -> bool {
+    if lent::words_changed(deviations, pack.deviations, request.rows) {
         return true;
     }
-    if lent::words_changed(correlations, pack.slots) {
+    if lent::words_changed(correlations, pack.slots, request.slots) {
         return true;
     }
-    lent::changed(presence, pack.slots)
+    lent::changed(presence, pack.slots, request.room)
 }
 
 fn put_pack(
+    request: Request,
     read: ReadAnswer,
     deviations: &[u64],
     correlations: &[u64],
@@ -78,11 +81,8 @@ fn put_pack(
     let said = put_answer(counts(read), at, out);
     let rowed = put_deviations(pack.deviations, deviations, said, out);
     let lined = put_slots(pack, correlations, presence, rowed, out);
-    lent::put_touched(
-        changed(pack, deviations, correlations, presence),
-        lined,
-        out,
-    )
+    let touched = changed(request, pack, deviations, correlations, presence);
+    lent::put_touched(touched, lined, out)
 }
 
 // As much is lent as the request says.
@@ -93,6 +93,7 @@ fn read(
     correlations: &mut [u64],
     presence: &mut [u8],
 ) -> ReadAnswer {
+    lent::mark_words(correlations, request.slots);
     let rows = within_words(request.rows as usize, deviations);
     let slots = within_words(request.slots as usize, correlations);
     let flags = within(request.room as usize, presence);
@@ -104,16 +105,15 @@ fn read(
     )
 }
 
-pub(crate) fn put_read(request: Request, pack: &[u8], at: usize, out: &mut [u8]) -> usize {
+pub(crate) fn put_read(
+    request: Request,
+    pack: &[u8],
+    correlations: &mut [u64],
+    at: usize,
+    out: &mut [u8],
+) -> usize {
     let mut deviations = room_for_deviations();
-    let mut correlations = room_for_correlations();
     let mut presence = room_for_presence();
-    let read = read(
-        request,
-        pack,
-        &mut deviations,
-        &mut correlations,
-        &mut presence,
-    );
-    put_pack(read, &deviations, &correlations, &presence, at, out)
+    let read = read(request, pack, &mut deviations, correlations, &mut presence);
+    put_pack(request, read, &deviations, correlations, &presence, at, out)
 }

@@ -2,6 +2,7 @@
 use crate::fields::field;
 use crate::forms::BAD_REQUEST;
 use crate::forms::WIDTH;
+use crate::forms::is_field;
 use crate::forms::letter;
 use text::numeral::Numeral;
 
@@ -52,13 +53,6 @@ impl Request {
             _ => {}
         }
         self
-    }
-}
-
-fn is_field(letter: u8) -> bool {
-    match letter {
-        b'A'..=b'Z' => true,
-        _ => false,
     }
 }
 

@@ -7,7 +7,9 @@ use Rattle.replay.proofs.main.Statement.{statement}
 use Rattle.replay.proofs.main.Tie as tie
 
 abbrev Inv-loop : tie.InvT-loop
-Inv-loop block₀ line₀ words₀ out₀ state₀ turns₀ block line words out state turns = (length block ≡ length block₀) × (length line ≡ length line₀) × (length words ≡ length words₀) × (length out ≡ length out₀)
+Inv-loop block₀ line₀ words₀ out₀ state₀ turns₀ block line words out state turns =
+    (length block ≡ length block₀) × (length line ≡ length line₀)
+    × (length words ≡ length words₀) × (length out ≡ length out₀)
 
 abbrev μ-loop : tie.MeasureT-loop
 μ-loop block₀ line₀ words₀ out₀ state₀ turns₀ block line words out state turns = turns

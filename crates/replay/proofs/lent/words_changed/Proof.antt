@@ -2,15 +2,14 @@
 -- Assumes nothing.
 use Prim.Native.Nat.{_-_}
 use borrow.Author.Needs.{needs}
-use lib.ListN.{length}
 use Rattle.replay.proofs.lent.words_changed.Statement.{statement}
 use Rattle.replay.proofs.lent.words_changed.Tie as tie
 
 abbrev Inv-loop : tie.InvT-loop
-Inv-loop lent from i₀ i = Unit {0}
+Inv-loop lent from count end i₀ i = Unit {0}
 
 abbrev μ-loop : tie.MeasureT-loop
-μ-loop lent from i₀ i = length lent - i
+μ-loop lent from count end i₀ i = end - i
 
 pub words-changed-spec : {M : Type 1} → statement M
 words-changed-spec =
@@ -18,6 +17,7 @@ words-changed-spec =
     (tie.spec
     Inv-loop
     μ-loop
+    (λ c κs. search needs)
     (λ c. search needs)
     (λ c. search needs)
     (λ c. search needs)

@@ -8,7 +8,8 @@ use Rattle.replay.proofs.request.read_request.Statement.{statement}
 use Rattle.replay.proofs.request.read_request.Tie as tie
 
 abbrev Inv-loop : tie.InvT-loop
-Inv-loop line₀ words₀ form request₀ at₀ i₀ line words request at i = (length line ≡ length line₀) × (length words ≡ length words₀)
+Inv-loop line₀ words₀ form request₀ at₀ i₀ line words request at i =
+    (length line ≡ length line₀) × (length words ≡ length words₀)
 
 abbrev μ-loop : tie.MeasureT-loop
 μ-loop line₀ words₀ form request₀ at₀ i₀ line words request at i = 24 - i
