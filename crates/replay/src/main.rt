@@ -19,10 +19,8 @@ mod request;
 mod writes;
 
 use answer::answer;
-use input::State;
-use input::flush;
-use input::next_block;
-use input::take_line;
+use input::flush_above;
+use input::refill;
 use layout::pack::SdccFlp;
 use request::read_request;
 use text::part::within;
@@ -44,12 +42,18 @@ const HELD: usize = 65_536;
 
 const OUT: usize = 2 * HELD + LINE;
 
+// How much of a line was read, and how much of the output is held.
+struct Held {
+    read: usize,
+    at: usize,
+}
+
 // How much of a line is a request: nothing of one that fills its room. An empty line is a bad request too.
 fn fitting(read: usize, room: usize) -> usize {
     if read < room { read } else { 0 }
 }
 
-// The request, and its answer.
+// The request, and its answer. What is held is written out when there is much of it.
 fn answer_line(
     read: usize,
     line: &mut [u8],
@@ -60,35 +64,25 @@ fn answer_line(
     let count = within(fitting(read, line.len()), line);
     let request = read_request(&mut line[..count], words);
     let answered = answer(request, line, words, at, out);
-    put_byte(b'\n', answered, out)
+    flush_above(HELD, put_byte(b'\n', answered, out), out)
 }
 
-// What is held is written out when there is much of it.
-fn held(at: usize, out: &[u8]) -> usize {
-    if HELD < at {
-        flush(at, out);
-        return 0;
+// Answers each line that the block ends. What a line has no room for is dropped.
+fn feed(block: &[u8], line: &mut [u8], words: &mut [u64], out: &mut [u8], state: Held) -> Held {
+    let mut read = state.read;
+    let mut at = state.at;
+    let mut i: usize = 0;
+    while i < block.len() {
+        let byte = block[i];
+        i += 1;
+        if byte == b'\n' {
+            at = answer_line(read, line, words, at, out);
+            read = 0;
+        } else {
+            read = put_byte(byte, read, line);
+        }
     }
-    at
-}
-
-// Answers a line of the block, or reads the next block.
-fn turn(
-    block: &mut [u8],
-    line: &mut [u8],
-    words: &mut [u64],
-    out: &mut [u8],
-    state: State,
-) -> State {
-    let mut taken = take_line(block, line, state);
-    if taken.ended {
-        let at = answer_line(taken.read, line, words, taken.held, out);
-        taken.held = held(at, out);
-        taken.read = 0;
-        taken.ended = false;
-        return taken;
-    }
-    next_block(block, out, taken)
+    Held { read, at }
 }
 
 // The arrays come from calls: the check would count the elements of one that `main` makes itself.
@@ -105,25 +99,26 @@ fn room_for_output() -> [u8; OUT] {
 }
 
 // The turns are counted down, from a number that no run uses up, since nothing says that the input ends.
+// What is held is written before the next block is read, so that whoever asks line by line is answered at once.
 fn main() {
     let mut block = io::large_buffer();
     let mut line = room_for_line();
     let mut words = room_for_words();
     let mut out = room_for_output();
-    let mut state = State {
-        at: 0,
-        end: 0,
-        read: 0,
-        ended: false,
-        held: 0,
-        over: false,
-    };
+    let mut state = Held { read: 0, at: 0 };
     let mut turns = u64::MAX;
     while 0 < turns {
         turns -= 1;
-        state = turn(&mut block, &mut line, &mut words, &mut out, state);
-        if state.over {
+        flush_above(0, state.at, &out);
+        let got = refill(&mut block, state.read);
+        let end = within(got, &block);
+        if end == 0 {
             return;
         }
+        let begun = Held {
+            read: state.read,
+            at: 0,
+        };
+        state = feed(&block[..end], &mut line, &mut words, &mut out, begun);
     }
 }
