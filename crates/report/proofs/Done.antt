@@ -96,6 +96,7 @@ module _ (bytes : List ℕ) (ok : isTooBig bytes ≡ false) where
 
 -- and so does whatever is printed
 pub printed-fits : (bytes : List ℕ) → length (printed bytes) ≤ room
+unfolding printed
 printed-fits bytes = picked (λ (t : List ℕ). length t ≤ room) (isTooBig bytes) _ _ (λ _. omega arith) (λ f. read-fits bytes f)
 
 -- the length that is answered is within the room

@@ -43,7 +43,7 @@ module _ (bytes : List ℕ) where
   abbrev pub readLines : List ℕ
   readLines = answerLines (readAnswer bytes maxRows maxSlots maxSlots)
 
-  abbrev pub printed : List ℕ
+  unfoldable pub printed : List ℕ
   printed = pick isTooBig tooBigLine readLines
 
 -- ---- printed into lent memory

@@ -2,10 +2,12 @@
 -- Assumes nothing.
 use mathlib.Core.Path.{sym, _∙_}
 use borrow.Author.Needs.{needs}
+use Rattle.report.specs.Printed.{printed}
 use Rattle.report.proofs.print.put_printed.Statement.{statement}
 use Rattle.report.proofs.print.put_printed.Tie as tie
 
 returns : tie.Need-returns
+unfolding printed
 returns c =
     let w = c .before .before in
     let v = w .before .before .before in
@@ -16,6 +18,7 @@ put-read-requires : tie.Need-put-read-requires
 put-read-requires c κs = sym (c .before .before .is-too-big .ensures) ∙ c .before .if1 .left
 
 returns-2 : tie.Need-returns-2
+unfolding printed
 returns-2 c =
     let w = c .before .before in
     let v = w .before .before in
