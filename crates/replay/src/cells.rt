@@ -36,7 +36,7 @@ pub(crate) fn on_matrix(request: Request, lists: &[u64]) -> Answer {
         slots: request.slots as usize,
     };
     if request.form == CELL {
-        answered(correlation(pack, rows, slots, request.i, request.j))
+        answered(correlation(pack, rows, slots, request.value, request.given))
     } else {
         words(yes_or_no(usable(pack, rows, slots)))
     }

@@ -11,9 +11,9 @@ pub(crate) struct Request {
     pub(crate) form: usize,
     // N: a matrix size, the length of a code or Clen
     pub(crate) size: u64,
-    // W and X: the bits of a number; P: a payload
+    // W and X: the bits of a number; P: a payload; I: a row
     pub(crate) value: u64,
-    // H: how many bytes are given
+    // H: how many bytes are given; J: a column
     pub(crate) given: u64,
     // R and F: the room for bytes
     pub(crate) room: u64,
@@ -21,8 +21,6 @@ pub(crate) struct Request {
     pub(crate) rows: u64,
     // C and E: the correlations, or the room for them
     pub(crate) slots: u64,
-    pub(crate) i: u64,
-    pub(crate) j: u64,
 }
 
 fn unfilled(form: usize) -> Request {
@@ -34,8 +32,6 @@ fn unfilled(form: usize) -> Request {
         room: 0,
         rows: 0,
         slots: 0,
-        i: 0,
-        j: 0,
     }
 }
 
@@ -43,13 +39,11 @@ impl Request {
     fn with(mut self, letter: u8, value: u64) -> Request {
         match letter {
             b'N' => self.size = value,
-            b'P' | b'W' | b'X' => self.value = value,
-            b'H' => self.given = value,
+            b'I' | b'P' | b'W' | b'X' => self.value = value,
+            b'H' | b'J' => self.given = value,
             b'F' | b'R' => self.room = value,
             b'D' | b'S' => self.rows = value,
             b'C' | b'E' => self.slots = value,
-            b'I' => self.i = value,
-            b'J' => self.j = value,
             _ => {}
         }
         self
