@@ -1,0 +1,4 @@
+pub mod Forms
+pub mod Reply
+pub mod Special
+pub mod Replies

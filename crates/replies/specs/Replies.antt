@@ -1,0 +1,85 @@
+-- Which reply what the codec answers has: the place of its form, and its values.
+use Prim.Native.Nat.{ℕ, _+_, _-_, _%_, _^_}
+use mathlib.Core.Bool.{Bool, true, false}
+use lib.Ieee.{binary32, binary64, toBits}
+use lib.ListN.{getD}
+use Rattle.answers.specs.Table.{pick}
+use Rattle.answers.specs.Row.{rowOf}
+use Rattle.answers.specs.declared.row.Row.{Row}
+use Rattle.answers.specs.declared.Refusal.{Refusal}
+use Rattle.answers.specs.declared.Refusal.the-variants.{TruncatedField}
+use Rattle.answers.specs.declared.Written.{Written}
+use Rattle.answers.specs.declared.Written.the-variants as written
+use Rattle.numbers.specs.Conversions.{converted}
+use Rattle.numbers.specs.declared.ber_oid.BerOid.{BerOid}
+use Rattle.numbers.specs.declared.ber_oid.BerOid.the-variants.{Read, Unreadable}
+use Rattle.imapb.specs.declared.decode.DecodedImapb.{DecodedImapb}
+use Rattle.imapb.specs.declared.decode.DecodedImapb.the-variants.{Value, Special, ReservedSpecial, OutOfRange}
+use Rattle.imapb.specs.declared.decode.ImapbRead.{ImapbRead}
+use Rattle.imapb.specs.declared.decode.ImapbRead.the-variants as mapped
+use Rattle.layout.specs.declared.size.Peek.{Peek}
+use Rattle.layout.specs.declared.size.Peek.the-variants.{Size, Nothing}
+use Rattle.reader.specs.declared.read.ReadAnswer.{ReadAnswer}
+use Rattle.reader.specs.declared.read.ReadAnswer.the-variants as read
+use Rattle.matrix.specs.declared.lookup.Cell.{Cell}
+use Rattle.matrix.specs.declared.lookup.Cell.the-variants as cell
+use Rattle.replies.specs.declared.reply.Reply.{Reply}
+use Rattle.replies.specs.Reply.{reply, oneReply, wordsReply}
+use Rattle.replies.specs.Special.{specialReply}
+
+-- ---- a refusal: its number, and its values in decimal, or in hex where they are the bits of binary64 numbers
+abbrev pub refusedForm : ℕ → Bool → ℕ
+refusedForm count floats = pick floats 26 (22 + count)
+
+abbrev pub rowReply : Row → Reply
+rowReply r =
+    reply (refusedForm (r .count) (r .floats)) (r .number)
+    (getD (r .values) 0 0) (getD (r .values) 1 0) (getD (r .values) 2 0)
+
+abbrev pub refusedReply : Refusal → Reply
+refusedReply r = rowReply (rowOf r)
+
+-- ---- numbers
+abbrev pub widenReply : ℕ → Reply
+widenReply bits = oneReply 28 (converted binary32 binary64 (bits % 2 ^ 32))
+
+abbrev pub narrowReply : ℕ → Reply
+narrowReply bits = oneReply 29 (converted binary64 binary32 bits)
+
+-- the value, and how many bytes are left
+abbrev pub oidReply : BerOid → ℕ → Reply
+oidReply (Read value taken) count = reply 30 value (count - taken) 0 0
+oidReply Unreadable count = refusedReply TruncatedField
+
+-- ---- a mapped value
+abbrev pub decodedReply : DecodedImapb → Reply
+decodedReply (Value x) = oneReply 33 (toBits binary64 x)
+decodedReply (Special s) = specialReply s
+decodedReply (ReservedSpecial raw) = oneReply 35 raw
+decodedReply (OutOfRange x) = oneReply 34 (toBits binary64 x)
+
+abbrev pub mappedReply : ImapbRead → Reply
+mappedReply (mapped.Done d) = decodedReply d
+mappedReply (mapped.Refused r) = refusedReply r
+
+-- ---- a pack
+abbrev pub peekReply : Peek → Reply
+peekReply (Size n) = oneReply 31 n
+peekReply Nothing = wordsReply 32
+
+-- N, the deviation count and M
+abbrev pub readReply : ReadAnswer → Reply
+readReply (read.Done p) = reply 40 (p .«matrix_size») (p .deviations) (p .slots) 0
+readReply (read.Refused r) = refusedReply r
+
+abbrev pub cellReply : Cell → Reply
+cellReply (cell.Number bits) = oneReply 36 bits
+cellReply (cell.Refused r) = refusedReply r
+
+abbrev pub usableReply : Bool → Reply
+usableReply usable = wordsReply (pick usable 38 37)
+
+-- ---- what writes: the form of what is done, with the count of bytes
+abbrev pub writtenReply : ℕ → Written → Reply
+writtenReply form (written.Done count) = oneReply form count
+writtenReply form (written.Refused r) = refusedReply r

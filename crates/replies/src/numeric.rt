@@ -1,0 +1,55 @@
+//! The replies on numbers.
+use crate::forms::BITS;
+use crate::forms::BITS32;
+use crate::forms::OID;
+use crate::refusal::refused;
+use crate::reply::Reply;
+use crate::reply::one;
+use answers::Refusal;
+use numbers::ber_oid::BerOid;
+use numbers::conversions::binary32_to_binary64;
+use numbers::conversions::binary64_to_binary32;
+ghost use mathlib.Core.Path.{_≡_};
+ghost use Prim.Native.Nat.{_-_};
+ghost use Rattle.replies.specs.Replies.{widenReply, narrowReply, oidReply};
+
+// The bits of a binary32 are the low half.
+pub fn widen(bits: u64) -> Reply
+    ensures { λ r. ⌜ r ≡ widenReply bits ⌝ }
+{
+    let wide = binary32_to_binary64((bits % 0x1_0000_0000) as u32);
+    one(BITS, wide)
+}
+
+pub fn narrow(bits: u64) -> Reply
+    ensures { λ r. ⌜ r ≡ narrowReply bits ⌝ }
+{
+    one(BITS32, binary64_to_binary32(bits) as u64)
+}
+
+// How many bytes are left of so many.
+fn left_of(count: usize, taken: usize) -> u64
+    ensures { λ r. ⌜ r ≡ count - taken ⌝ }
+{
+    if taken < count {
+        (count - taken) as u64
+    } else {
+        0
+    }
+}
+
+// What was read at the front of so many bytes.
+pub fn of_oid(read: BerOid, count: usize) -> Reply
+    ensures { λ r. ⌜ r ≡ oidReply read count ⌝ }
+{
+    match read {
+        BerOid::Read { value, taken } => Reply {
+            form: OID,
+            a: value as u64,
+            b: left_of(count, taken),
+            c: 0,
+            d: 0,
+        },
+        BerOid::Unreadable => refused(Refusal::TruncatedField),
+    }
+}
