@@ -1,7 +1,9 @@
--- No second answer meets a contract.
+-- No second answer meets a contract: two that do are the same, with what they leave in lent memory.
 -- Assumes nothing.
 use mathlib.Core.Path.{sym, _∙_}
-use Rattle.answers.specs.OneAnswer.{OneResult}
+use denote.Ref.{now}
+use Rattle.answers.specs.OneAnswer.{OneResult, OneAnswer}
+use Rattle.text.proofs.OneAnswer.{put-one}
 use Rattle.replies.proofs.forms.letter.Reads as letter
 use Rattle.replies.proofs.forms.is_field.Reads as is-field
 use Rattle.replies.proofs.reply.one.Reads as one
@@ -18,6 +20,7 @@ use Rattle.replies.proofs.pack.of_peek.Reads as of-peek
 use Rattle.replies.proofs.pack.of_read.Reads as of-read
 use Rattle.replies.proofs.pack.of_cell.Reads as of-cell
 use Rattle.replies.proofs.pack.of_usable.Reads as of-usable
+use Rattle.replies.proofs.put.put_reply.Reads as put-reply
 
 pub letter-one : OneResult letter.Learnt
 letter-one κs a r r′ s s′ p q = p ∙ sym q
@@ -66,3 +69,6 @@ of-cell-one κs a r r′ s s′ p q = p ∙ sym q
 
 pub of-usable-one : OneResult of-usable.Learnt
 of-usable-one κs a r r′ s s′ p q = p ∙ sym q
+
+pub put-reply-one : OneAnswer put-reply.Learnt (λ κs s. now (s .1 .1 .0))
+put-reply-one κs a r r′ s s′ p q = put-one p q

@@ -2,3 +2,4 @@ pub mod Forms
 pub mod Reply
 pub mod Special
 pub mod Replies
+pub mod ReplyText

@@ -5,5 +5,6 @@ pub mod mapped;
 pub mod numeric;
 pub mod outcome;
 pub mod pack;
+pub mod put;
 pub mod refusal;
 pub mod reply;
