@@ -3,43 +3,12 @@ use crate::BYTES;
 use crate::ROWS;
 use crate::SLOTS;
 use text::numeral::Numeral;
-use text::numeral::decimal;
+use text::numeral::at_end;
+use text::numeral::bits_after_space;
+use text::numeral::decimal_up_to;
 use text::numeral::hex;
+use text::numeral::literal;
 use text::part::within_words;
-
-// Past a byte, where the line has it; its value is 0.
-fn literal(byte: u8, line: &[u8], at: usize) -> Numeral {
-    if at < line.len() {
-        if line[at] == byte {
-            return Numeral::Read {
-                value: 0,
-                next: at + 1,
-            };
-        }
-    }
-    Numeral::Malformed
-}
-
-// The line's end, where nothing is left.
-fn end(line: &[u8], at: usize) -> Numeral {
-    if at == line.len() {
-        Numeral::Read { value: 0, next: at }
-    } else {
-        Numeral::Malformed
-    }
-}
-
-// A decimal number up to a limit.
-fn decimal_up_to(most: u64, line: &[u8], at: usize) -> Numeral {
-    let number = decimal(line, at);
-    let Numeral::Read { value, next } = number else {
-        return Numeral::Malformed;
-    };
-    if most < value {
-        return Numeral::Malformed;
-    }
-    Numeral::Read { value, next }
-}
 
 // The byte string of so many bytes, up to a place. One that is empty is spelled `-`.
 fn spelled(count: usize, line: &[u8], next: usize) -> Numeral {
@@ -66,15 +35,6 @@ fn byte_string(line: &mut [u8], at: usize) -> Numeral {
         count += 1;
     }
     Numeral::Malformed
-}
-
-// A space and the bits of a number after it.
-fn bits_after_space(line: &[u8], at: usize) -> Numeral {
-    let space = literal(b' ', line, at);
-    let Numeral::Read { value: _, next } = space else {
-        return Numeral::Malformed;
-    };
-    hex(line, next, 16)
 }
 
 // As many numbers as the list has entries, each after a space.
@@ -122,7 +82,7 @@ fn number(letter: u8, line: &[u8], at: usize) -> Numeral {
         b'W' => hex(line, at, 8),
         b'X' => hex(line, at, 16),
         b'A'..=b'V' => decimal_up_to(most(letter), line, at),
-        b'.' => end(line, at),
+        b'.' => at_end(line, at),
         b',' => Numeral::Read { value: 0, next: at },
         _ => literal(letter, line, at),
     }

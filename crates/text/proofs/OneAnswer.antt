@@ -17,6 +17,10 @@ use Rattle.text.proofs.put.put_bits.Reads as put-bits
 use Rattle.text.proofs.numeral.digit_at.Reads as digit-at
 use Rattle.text.proofs.numeral.decimal.Reads as decimal
 use Rattle.text.proofs.numeral.hex.Reads as hex
+use Rattle.text.proofs.numeral.literal.Reads as literal
+use Rattle.text.proofs.numeral.at_end.Reads as at-end
+use Rattle.text.proofs.numeral.decimal_up_to.Reads as decimal-up-to
+use Rattle.text.proofs.numeral.bits_after_space.Reads as bits-after-space
 
 pub within-one : OneResult within.Learnt
 within-one κs a r r′ s s′ p q = p .1 ∙ sym (q .1)
@@ -54,3 +58,15 @@ decimal-one κs a r r′ s s′ p q = p ∙ sym q
 
 pub hex-one : OneResult hex.Learnt
 hex-one κs a r r′ s s′ p q = p ∙ sym q
+
+pub literal-one : OneResult literal.Learnt
+literal-one κs a r r′ s s′ p q = p ∙ sym q
+
+pub at-end-one : OneResult at-end.Learnt
+at-end-one κs a r r′ s s′ p q = p ∙ sym q
+
+pub decimal-up-to-one : OneResult decimal-up-to.Learnt
+decimal-up-to-one κs a r r′ s s′ p q = p ∙ sym q
+
+pub bits-after-space-one : OneResult bits-after-space.Learnt
+bits-after-space-one κs a r r′ s s′ p q = p ∙ sym q
