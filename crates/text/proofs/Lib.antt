@@ -2,4 +2,5 @@ pub mod Order
 pub mod Pieces
 pub mod Figures
 pub mod Line
+pub mod Marked
 pub mod OneAnswer

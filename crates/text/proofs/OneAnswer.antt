@@ -1,11 +1,15 @@
 -- No second answer meets a contract: two that do are the same, with what they leave in lent memory.
 -- Assumes nothing.
-use mathlib.Core.Path.{_≡_, sym, _∙_}
+use mathlib.Core.Path.{_≡_, refl, sym, _∙_}
 use mathlib.Core.List.{List}
 use Prim.Native.Nat.{ℕ}
 use denote.Ref.{now}
 use Rattle.answers.specs.OneAnswer.{OneResult, OneAnswer}
 use Rattle.text.specs.Put.{Put}
+use Rattle.text.proofs.marks.mark.Reads as mark
+use Rattle.text.proofs.marks.mark_words.Reads as mark-words
+use Rattle.text.proofs.marks.changed.Reads as changed
+use Rattle.text.proofs.marks.words_changed.Reads as words-changed
 use Rattle.text.proofs.part.within.Reads as within
 use Rattle.text.proofs.part.within_words.Reads as within-words
 use Rattle.text.proofs.put.put_byte.Reads as put-byte
@@ -70,3 +74,16 @@ decimal-up-to-one κs a r r′ s s′ p q = p ∙ sym q
 
 pub bits-after-space-one : OneResult bits-after-space.Learnt
 bits-after-space-one κs a r r′ s s′ p q = p ∙ sym q
+
+pub changed-one : OneResult changed.Learnt
+changed-one κs a r r′ s s′ p q = p ∙ sym q
+
+pub words-changed-one : OneResult words-changed.Learnt
+words-changed-one κs a r r′ s s′ p q = p ∙ sym q
+
+-- what they leave is all that they answer
+pub mark-one : OneAnswer mark.Learnt (λ κs s. now (s .0))
+mark-one κs a r r′ s s′ p q = (refl, p ∙ sym q)
+
+pub mark-words-one : OneAnswer mark-words.Learnt (λ κs s. now (s .0))
+mark-words-one κs a r r′ s s′ p q = (refl, p ∙ sym q)

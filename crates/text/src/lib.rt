@@ -1,4 +1,5 @@
-//! Text in lent memory: numbers and words put from a place on, and numbers read from a line.
+//! Text in lent memory: numbers and words put from a place on, numbers read from a line, and marks that show a change.
+pub mod marks;
 pub mod numeral;
 pub mod part;
 pub mod put;
