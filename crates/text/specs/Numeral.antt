@@ -1,8 +1,8 @@
 -- Numbers as a line spells them: what is left of the line, behind what was read.
 use Prim.Native.Nat.{ℕ, zero, suc, _+_, _-_, _*_, _%_, _^_}
 use mathlib.Core.List.{List, [], _∷_}
-use lib.Dec.{ltb, leb}
-use lib.ListN.{getD, drop}
+use lib.Dec.{eqb, ltb, leb}
+use lib.ListN.{getD, drop, length}
 use Rattle.answers.specs.Table.{pick}
 use Rattle.text.specs.declared.numeral.Numeral.{Numeral}
 use Rattle.text.specs.declared.numeral.Numeral.the-variants.{Read, Malformed}
@@ -43,3 +43,26 @@ hexFrom (suc k) value next (b ∷ bs) =
 
 abbrev pub hexAt : List ℕ → ℕ → ℕ → Numeral
 hexAt line at digits = hexFrom digits 0 at (drop at line)
+
+-- ---- what stands between numbers, and numbers with more to say
+-- what comes behind a number that is read
+abbrev pub then : Numeral → (ℕ → ℕ → Numeral) → Numeral
+then (Read value next) f = f value next
+then Malformed f = Malformed
+
+-- past a byte, with the value 0
+abbrev pub literalAt : ℕ → List ℕ → ℕ → Numeral
+literalAt byte line at =
+    pick (ltb at (length line)) (pick (eqb (getD line at 0) byte) (Read 0 (at + 1)) Malformed) Malformed
+
+-- the line's end, with the value 0
+abbrev pub endAt : List ℕ → ℕ → Numeral
+endAt line at = pick (eqb at (length line)) (Read 0 at) Malformed
+
+abbrev pub decimalUpTo : ℕ → List ℕ → ℕ → Numeral
+decimalUpTo limit line at =
+    then (decimalAt line at) (λ value next. pick (leb value limit) (Read value next) Malformed)
+
+-- a space, and the bits of a binary64
+abbrev pub spacedBitsAt : List ℕ → ℕ → Numeral
+spacedBitsAt line at = then (literalAt 0x20 line at) (λ _ next. hexAt line next 16)

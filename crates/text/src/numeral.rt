@@ -2,6 +2,7 @@
 ghost use mathlib.Core.Path.{_≡_};
 ghost use lib.ListN.{getD};
 ghost use Rattle.text.specs.Numeral.{worth, digitAt, decimalAt, hexAt};
+ghost use Rattle.text.specs.Numeral.{literalAt, endAt, decimalUpTo, spacedBitsAt};
 
 // A number, and where the line goes on.
 pub enum Numeral {
@@ -76,4 +77,55 @@ pub fn hex(line: &[u8], at: usize, digits: usize) -> Numeral
         left -= 1;
     }
     Numeral::Read { value, next }
+}
+
+// Past a byte, where the line has it; its value is 0.
+pub fn literal(byte: u8, line: &[u8], at: usize) -> Numeral
+    ensures { λ r. ⌜ r ≡ literalAt byte (now (line .entry)) at ⌝ }
+{
+    if at < line.len() {
+        if line[at] == byte {
+            return Numeral::Read {
+                value: 0,
+                next: at + 1,
+            };
+        }
+    }
+    Numeral::Malformed
+}
+
+// The line's end, where nothing is left.
+pub fn at_end(line: &[u8], at: usize) -> Numeral
+    ensures { λ r. ⌜ r ≡ endAt (now (line .entry)) at ⌝ }
+{
+    if at == line.len() {
+        Numeral::Read { value: 0, next: at }
+    } else {
+        Numeral::Malformed
+    }
+}
+
+// A decimal number up to a limit.
+pub fn decimal_up_to(most: u64, line: &[u8], at: usize) -> Numeral
+    ensures { λ r. ⌜ r ≡ decimalUpTo most (now (line .entry)) at ⌝ }
+{
+    let number = decimal(line, at);
+    let Numeral::Read { value, next } = number else {
+        return Numeral::Malformed;
+    };
+    if most < value {
+        return Numeral::Malformed;
+    }
+    Numeral::Read { value, next }
+}
+
+// A space, and the bits of a binary64.
+pub fn bits_after_space(line: &[u8], at: usize) -> Numeral
+    ensures { λ r. ⌜ r ≡ spacedBitsAt (now (line .entry)) at ⌝ }
+{
+    let space = literal(b' ', line, at);
+    let Numeral::Read { value: _, next } = space else {
+        return Numeral::Malformed;
+    };
+    hex(line, next, 16)
 }
