@@ -1,38 +1,26 @@
 //! The answer to a request: each calls a function of the port, and puts what that answers.
+use crate::bytes;
 use crate::cells::on_matrix;
-use crate::forms::BAD_REQUEST;
-use crate::forms::NOTHING;
-use crate::forms::SIZE;
-use crate::mapped::mapped;
-use crate::numeric;
 use crate::prints::put_print;
-use crate::put::Answer;
-use crate::put::one;
-use crate::put::put_answer;
-use crate::put::words;
 use crate::reads::put_read;
 use crate::request::Request;
 use crate::writes::put_write;
-use layout::size::Peek;
-use layout::size::peek_matrix_size;
+use replies::forms::BAD_REQUEST;
+use replies::numeric;
+use replies::put::put_reply;
+use replies::reply::Reply;
+use replies::reply::words;
 use text::part::within;
 
-fn peek(pack: &[u8]) -> Answer {
-    match peek_matrix_size(pack) {
-        Peek::Size(n) => one(SIZE, n as u64),
-        Peek::Nothing => words(NOTHING),
-    }
-}
-
 // The requests that are answered by a form alone.
-fn short(request: Request, given: &[u8], lists: &[u64]) -> Answer {
+fn short(request: Request, given: &[u8], lists: &[u64]) -> Reply {
     let form = request.form;
     match form {
         0 => numeric::widen(request.value),
         1 => numeric::narrow(request.value),
-        2 => numeric::oid(given),
-        3 => mapped(request.size as usize, given),
-        4 => peek(given),
+        2 => bytes::oid(given),
+        3 => bytes::mapped(request.size as usize, given),
+        4 => bytes::peek(given),
         5 | 6 => on_matrix(request, lists),
         _ => words(BAD_REQUEST),
     }
@@ -50,7 +38,7 @@ fn answer_given(
     match form {
         7 => put_print(given, at, out),
         8 => put_read(request, given, lists, at, out),
-        _ => put_answer(short(request, given, lists), at, out),
+        _ => put_reply(short(request, given, lists), at, out),
     }
 }
 

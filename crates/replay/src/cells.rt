@@ -1,33 +1,17 @@
 //! The requests on a matrix: cell, usable.
-use crate::forms::CELL;
-use crate::forms::NO;
-use crate::forms::NUMBER;
-use crate::forms::YES;
 use crate::lists::correlations;
 use crate::lists::deviations;
-use crate::put::Answer;
-use crate::put::one;
-use crate::put::words;
-use crate::refusal::refused;
 use crate::request::Request;
 use layout::pack::SdccFlp;
-use matrix::lookup::Cell;
 use matrix::lookup::correlation;
 use matrix::usable::usable;
-
-fn answered(cell: Cell) -> Answer {
-    match cell {
-        Cell::Number(bits) => one(NUMBER, bits),
-        Cell::Refused(refusal) => refused(refusal),
-    }
-}
-
-fn yes_or_no(yes: bool) -> usize {
-    if yes { YES } else { NO }
-}
+use replies::forms::CELL;
+use replies::pack::of_cell;
+use replies::pack::of_usable;
+use replies::reply::Reply;
 
 // The counts are the pack's own, and what is lent holds just those entries.
-pub(crate) fn on_matrix(request: Request, lists: &[u64]) -> Answer {
+pub(crate) fn on_matrix(request: Request, lists: &[u64]) -> Reply {
     let rows = deviations(lists, request.rows);
     let slots = correlations(lists, request.slots);
     let pack = SdccFlp {
@@ -36,8 +20,8 @@ pub(crate) fn on_matrix(request: Request, lists: &[u64]) -> Answer {
         slots: request.slots as usize,
     };
     if request.form == CELL {
-        answered(correlation(pack, rows, slots, request.value, request.given))
+        of_cell(correlation(pack, rows, slots, request.value, request.given))
     } else {
-        words(yes_or_no(usable(pack, rows, slots)))
+        of_usable(usable(pack, rows, slots))
     }
 }

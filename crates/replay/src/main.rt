@@ -1,20 +1,15 @@
 //! Answers requests: a line of standard input each, and a line of standard output for each.
 mod answer;
+mod bytes;
 mod cells;
 mod fields;
-mod forms;
 mod input;
-mod kind;
 mod lent;
 mod lists;
-mod mapped;
-mod numeric;
 mod outcome;
 mod pack_lines;
 mod prints;
-mod put;
 mod reads;
-mod refusal;
 mod request;
 mod writes;
 

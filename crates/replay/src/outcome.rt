@@ -1,12 +1,10 @@
 //! What a function that writes into lent bytes answers, and what it leaves there.
-use crate::forms::DONE;
 use crate::lent::changed;
 use crate::lent::put_touched;
-use crate::put::Answer;
-use crate::put::one;
-use crate::put::put_answer;
-use crate::refusal::refused;
 use answers::Written;
+use replies::forms::DONE;
+use replies::outcome::of_written;
+use replies::put::put_reply;
 use text::part::within;
 use text::put::put_byte;
 use text::put::put_hex;
@@ -16,13 +14,6 @@ fn used(written: Written) -> usize {
     match written {
         Written::Done(count) => count,
         Written::Refused(_) => 0,
-    }
-}
-
-fn outcome(form: usize, written: Written) -> Answer {
-    match written {
-        Written::Done(count) => one(form, count as u64),
-        Written::Refused(refusal) => refused(refusal),
     }
 }
 
@@ -60,7 +51,7 @@ pub(crate) fn put_written(
     out: &mut [u8],
 ) -> usize {
     let count = within(used(written), lent);
-    let said = put_answer(outcome(form, written), at, out);
+    let said = put_reply(of_written(form, written), at, out);
     let shown = put_bytes(form, &lent[..count], said, out);
     put_touched(changed(lent, count, lent.len() as u64), shown, out)
 }

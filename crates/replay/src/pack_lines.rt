@@ -1,18 +1,18 @@
 //! The lines of a pack that was read, each behind a `;`: an s for each deviation, then a c for each slot.
-use crate::forms::DEVIATION;
-use crate::forms::EMPTY;
-use crate::forms::SLOT;
-use crate::put::Answer;
-use crate::put::put_answer;
-use crate::put::words;
 use layout::pack::SdccFlp;
+use replies::forms::DEVIATION;
+use replies::forms::EMPTY;
+use replies::forms::SLOT;
+use replies::put::put_reply;
+use replies::reply::Reply;
+use replies::reply::words;
 
 // The line of a deviation; nothing past them all.
-fn deviation(row: usize, deviations: &[u64]) -> Answer {
+fn deviation(row: usize, deviations: &[u64]) -> Reply {
     if deviations.len() <= row {
         return words(EMPTY);
     }
-    Answer {
+    Reply {
         form: DEVIATION,
         a: row as u64,
         b: deviations[row],
@@ -25,7 +25,7 @@ pub(crate) fn put_deviations(count: usize, deviations: &[u64], at: usize, out: &
     let mut next = at;
     let mut i: usize = 0;
     while i < count {
-        next = put_answer(deviation(i, deviations), next, out);
+        next = put_reply(deviation(i, deviations), next, out);
         i += 1;
     }
     next
@@ -57,14 +57,14 @@ fn wide(flag: u8) -> u64 {
 }
 
 // The line of a slot; nothing past them all.
-fn slot(k: usize, cell: Cell, correlations: &[u64], presence: &[u8]) -> Answer {
+fn slot(k: usize, cell: Cell, correlations: &[u64], presence: &[u8]) -> Reply {
     if correlations.len() <= k {
         return words(EMPTY);
     }
     if presence.len() <= k {
         return words(EMPTY);
     }
-    Answer {
+    Reply {
         form: SLOT,
         a: cell.i,
         b: cell.j,
@@ -84,7 +84,7 @@ pub(crate) fn put_slots(
     let mut cell = Cell { i: 0, j: 1 };
     let mut k: usize = 0;
     while k < pack.slots {
-        next = put_answer(slot(k, cell, correlations, presence), next, out);
+        next = put_reply(slot(k, cell, correlations, presence), next, out);
         cell = next_cell(cell, pack.matrix_size);
         k += 1;
     }

@@ -1,8 +1,8 @@
 //! The request for what the program `sdcc` writes: print.
-use crate::forms::EMPTY;
 use crate::lent::MARK;
 use crate::outcome::put_written;
 use answers::Written;
+use replies::forms::EMPTY;
 use report::print::print_pack;
 
 // What any text has room in, and more, so that what stands past it shows.

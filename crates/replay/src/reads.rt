@@ -1,19 +1,17 @@
 //! The request that reads a pack: read.
 use crate::ROWS;
 use crate::SLOTS;
-use crate::forms::COUNTS;
 use crate::lent;
 use crate::lent::MARK;
 use crate::lent::WORD;
 use crate::pack_lines::put_deviations;
 use crate::pack_lines::put_slots;
-use crate::put::Answer;
-use crate::put::put_answer;
-use crate::refusal::refused;
 use crate::request::Request;
 use layout::pack::SdccFlp;
 use reader::read::ReadAnswer;
 use reader::read::decode_sdcc_flp;
+use replies::pack::of_read;
+use replies::put::put_reply;
 use text::part::within;
 use text::part::within_words;
 
@@ -24,19 +22,6 @@ fn room_for_deviations() -> [u64; ROWS] {
 
 fn room_for_presence() -> [u8; SLOTS] {
     [MARK; SLOTS]
-}
-
-fn counts(read: ReadAnswer) -> Answer {
-    match read {
-        ReadAnswer::Done(pack) => Answer {
-            form: COUNTS,
-            a: pack.matrix_size,
-            b: pack.deviations as u64,
-            c: pack.slots as u64,
-            d: 0,
-        },
-        ReadAnswer::Refused(refusal) => refused(refusal),
-    }
 }
 
 // What was read; nothing of a pack that was refused.
@@ -78,7 +63,7 @@ fn put_pack(
     out: &mut [u8],
 ) -> usize {
     let pack = pack_of(read);
-    let said = put_answer(counts(read), at, out);
+    let said = put_reply(of_read(read), at, out);
     let rowed = put_deviations(pack.deviations, deviations, said, out);
     let lined = put_slots(pack, correlations, presence, rowed, out);
     let touched = changed(request, pack, deviations, correlations, presence);

@@ -1,9 +1,9 @@
 //! Which request a line is.
 use crate::fields::field;
-use crate::forms::BAD_REQUEST;
-use crate::forms::WIDTH;
-use crate::forms::is_field;
-use crate::forms::letter;
+use replies::forms::BAD_REQUEST;
+use replies::forms::WIDTH;
+use replies::forms::is_field;
+use replies::forms::letter;
 use text::numeral::Numeral;
 
 // A request: its form, and what its fields say.

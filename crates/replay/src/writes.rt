@@ -1,7 +1,4 @@
 //! The requests that write into what is lent: map, special, write.
-use crate::forms::DONE;
-use crate::forms::WRITE;
-use crate::kind::special_of;
 use crate::lent::mark;
 use crate::lists::correlations;
 use crate::lists::deviations;
@@ -10,6 +7,9 @@ use crate::request::Request;
 use answers::Written;
 use imapb::encode::encode_imapb;
 use imapb::special::encode_imapb_special;
+use replies::forms::DONE;
+use replies::forms::WRITE;
+use replies::kind::special_of;
 use text::part::within;
 use writer::write::encode_sdcc_flp;
 use writer::write::encode_sdcc_flp_mode2;
