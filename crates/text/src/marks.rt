@@ -24,7 +24,8 @@ pub fn mark(lent: &mut [u8])
 
 // The mark goes into the first words, so many.
 pub fn mark_words(lent: &mut [u64], count: u64)
-    ensures { λ r. ⌜ now (lent .exit) ≡ over (marked wordMark (min count (length (now (lent .entry))))) (now (lent .entry)) ⌝ }
+    ensures { λ r. ⌜ now (lent .exit)
+        ≡ over (marked wordMark (min count (length (now (lent .entry))))) (now (lent .entry)) ⌝ }
 {
     let end = within_words(count as usize, lent);
     let mut i: usize = 0;
