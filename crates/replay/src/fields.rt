@@ -2,9 +2,9 @@
 use crate::BYTES;
 use crate::ROWS;
 use crate::SLOTS;
+use text::list::list;
 use text::numeral::Numeral;
 use text::numeral::at_end;
-use text::numeral::bits_after_space;
 use text::numeral::decimal_up_to;
 use text::numeral::hex;
 use text::numeral::literal;
@@ -35,35 +35,6 @@ fn byte_string(line: &mut [u8], at: usize) -> Numeral {
         count += 1;
     }
     Numeral::Malformed
-}
-
-// As many numbers as the list has entries, each after a space.
-fn entries(line: &[u8], at: usize, list: &mut [u64]) -> Numeral {
-    let mut next = at;
-    let mut i: usize = 0;
-    while i < list.len() {
-        let number = bits_after_space(line, next);
-        let Numeral::Read { value, next: after } = number else {
-            return Numeral::Malformed;
-        };
-        list[i] = value;
-        next = after;
-        i += 1;
-    }
-    Numeral::Read {
-        value: list.len() as u64,
-        next,
-    }
-}
-
-// The list, into the front of `room`: its count, and then its entries.
-fn list(line: &[u8], at: usize, room: &mut [u64]) -> Numeral {
-    let number = decimal_up_to(room.len() as u64, line, at);
-    let Numeral::Read { value: count, next } = number else {
-        return Numeral::Malformed;
-    };
-    let listed = within_words(count as usize, room);
-    entries(line, next, &mut room[..listed])
 }
 
 // The most that a field's number may be: a room is at most what there is.

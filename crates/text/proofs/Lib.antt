@@ -3,4 +3,5 @@ pub mod Pieces
 pub mod Figures
 pub mod Line
 pub mod Marked
+pub mod Entered
 pub mod OneAnswer

@@ -6,6 +6,8 @@ use Prim.Native.Nat.{ℕ}
 use denote.Ref.{now}
 use Rattle.answers.specs.OneAnswer.{OneResult, OneAnswer}
 use Rattle.text.specs.Put.{Put}
+use Rattle.text.proofs.list.entries.Reads as entries
+use Rattle.text.proofs.list.list.Reads as list
 use Rattle.text.proofs.marks.mark.Reads as mark
 use Rattle.text.proofs.marks.mark_words.Reads as mark-words
 use Rattle.text.proofs.marks.changed.Reads as changed
@@ -87,3 +89,9 @@ mark-one κs a r r′ s s′ p q = (refl, p ∙ sym q)
 
 pub mark-words-one : OneAnswer mark-words.Learnt (λ κs s. now (s .0))
 mark-words-one κs a r r′ s s′ p q = (refl, p ∙ sym q)
+
+pub entries-one : OneAnswer entries.Learnt (λ κs s. now (s .1 .1 .0))
+entries-one κs a r r′ s s′ p q = (p .0 ∙ sym (q .0), p .1 ∙ sym (q .1))
+
+pub list-one : OneAnswer list.Learnt (λ κs s. now (s .1 .1 .0))
+list-one κs a r r′ s s′ p q = (p .0 ∙ sym (q .0), p .1 ∙ sym (q .1))

@@ -2,3 +2,4 @@ pub mod Text
 pub mod Put
 pub mod Numeral
 pub mod Marks
+pub mod Entries

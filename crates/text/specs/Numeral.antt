@@ -45,10 +45,14 @@ abbrev pub hexAt : List ℕ → ℕ → ℕ → Numeral
 hexAt line at digits = hexFrom digits 0 at (drop at line)
 
 -- ---- what stands between numbers, and numbers with more to say
+-- by whether a number is read
+abbrev pub whether : {A : Type 0} → Numeral → (ℕ → ℕ → A) → A → A
+whether (Read value next) f none = f value next
+whether Malformed f none = none
+
 -- what comes behind a number that is read
 abbrev pub then : Numeral → (ℕ → ℕ → Numeral) → Numeral
-then (Read value next) f = f value next
-then Malformed f = Malformed
+then number f = whether number f Malformed
 
 -- past a byte, with the value 0
 abbrev pub literalAt : ℕ → List ℕ → ℕ → Numeral
