@@ -8,7 +8,7 @@ use Rattle.answers.specs.OneAnswer.{OneResult, OneAnswer}
 use Rattle.trip.specs.Tripped.{Lent, lentOf}
 use Rattle.answers.proofs.OneAnswer.{row-of-one}
 use Rattle.answers.proofs.row.row_of.Reads as row-of
-use Rattle.text.proofs.OneAnswer.{within-one, within-words-one, put-byte-one, put-text-one, put-decimal-one, put-named-one, put-hex-one, put-bits-one, digit-at-one, decimal-one, hex-one}
+use Rattle.text.proofs.OneAnswer.{within-one, within-words-one, put-byte-one, put-text-one, put-decimal-one, put-named-one, put-hex-one, put-bits-one, digit-at-one, decimal-one, hex-one, literal-one, at-end-one, decimal-up-to-one, bits-after-space-one, entries-one, list-one, mark-one, mark-words-one, changed-one, words-changed-one}
 use Rattle.text.proofs.part.within.Reads as within
 use Rattle.text.proofs.part.within_words.Reads as within-words
 use Rattle.text.proofs.put.put_byte.Reads as put-byte
@@ -20,6 +20,16 @@ use Rattle.text.proofs.put.put_bits.Reads as put-bits
 use Rattle.text.proofs.numeral.digit_at.Reads as digit-at
 use Rattle.text.proofs.numeral.decimal.Reads as decimal
 use Rattle.text.proofs.numeral.hex.Reads as hex
+use Rattle.text.proofs.numeral.literal.Reads as literal
+use Rattle.text.proofs.numeral.at_end.Reads as at-end
+use Rattle.text.proofs.numeral.decimal_up_to.Reads as decimal-up-to
+use Rattle.text.proofs.numeral.bits_after_space.Reads as bits-after-space
+use Rattle.text.proofs.list.entries.Reads as entries
+use Rattle.text.proofs.list.list.Reads as list
+use Rattle.text.proofs.marks.mark.Reads as mark
+use Rattle.text.proofs.marks.mark_words.Reads as mark-words
+use Rattle.text.proofs.marks.changed.Reads as changed
+use Rattle.text.proofs.marks.words_changed.Reads as words-changed
 use Rattle.numbers.proofs.OneAnswer.{read-be-one, ber-oid-len-one, read-ber-oid-one, write-be-one, write-ber-oid-one, nearest-binary64-one, binary64-to-binary32-one, binary32-to-binary64-one, whole-part-one}
 use Rattle.numbers.proofs.words.read_be.Reads as read-be
 use Rattle.numbers.proofs.ber_oid.ber_oid_len.Reads as ber-oid-len
@@ -75,6 +85,24 @@ use Rattle.matrix.proofs.lookup.correlation.Reads as correlation
 use Rattle.matrix.proofs.usable.usable.Reads as usable
 use Rattle.report.proofs.OneAnswer.{print-pack-one}
 use Rattle.report.proofs.print.print_pack.Reads as print-pack
+use Rattle.replies.proofs.OneAnswer.{letter-one, is-field-one, one-one, words-one, refused-one, special-of-one, special-one, of-mapped-one, widen-one, narrow-one, of-oid-one, of-written-one, of-peek-one, of-read-one, of-cell-one, of-usable-one, put-reply-one}
+use Rattle.replies.proofs.forms.letter.Reads as letter
+use Rattle.replies.proofs.forms.is_field.Reads as is-field
+use Rattle.replies.proofs.reply.one.Reads as one
+use Rattle.replies.proofs.reply.words.Reads as words
+use Rattle.replies.proofs.refusal.refused.Reads as refused
+use Rattle.replies.proofs.kind.special_of.Reads as special-of
+use Rattle.replies.proofs.kind.special.Reads as special
+use Rattle.replies.proofs.mapped.of_mapped.Reads as of-mapped
+use Rattle.replies.proofs.numeric.widen.Reads as widen
+use Rattle.replies.proofs.numeric.narrow.Reads as narrow
+use Rattle.replies.proofs.numeric.of_oid.Reads as of-oid
+use Rattle.replies.proofs.outcome.of_written.Reads as of-written
+use Rattle.replies.proofs.pack.of_peek.Reads as of-peek
+use Rattle.replies.proofs.pack.of_read.Reads as of-read
+use Rattle.replies.proofs.pack.of_cell.Reads as of-cell
+use Rattle.replies.proofs.pack.of_usable.Reads as of-usable
+use Rattle.replies.proofs.put.put_reply.Reads as put-reply
 use Rattle.trip.proofs.OneAnswer.{round-trip-one}
 use Rattle.trip.proofs.round_trip.round_trip.Reads as round-trip
 
@@ -93,6 +121,16 @@ pub record Determined : Type 0 where
   pub digit-at-determined : OneResult digit-at.Learnt
   pub decimal-determined : OneResult decimal.Learnt
   pub hex-determined : OneResult hex.Learnt
+  pub literal-determined : OneResult literal.Learnt
+  pub at-end-determined : OneResult at-end.Learnt
+  pub decimal-up-to-determined : OneResult decimal-up-to.Learnt
+  pub bits-after-space-determined : OneResult bits-after-space.Learnt
+  pub entries-determined : OneAnswer entries.Learnt (λ κs s. now (s .1 .1 .0))
+  pub list-determined : OneAnswer list.Learnt (λ κs s. now (s .1 .1 .0))
+  pub mark-determined : OneAnswer mark.Learnt (λ κs s. now (s .0))
+  pub mark-words-determined : OneAnswer mark-words.Learnt (λ κs s. now (s .0))
+  pub changed-determined : OneResult changed.Learnt
+  pub words-changed-determined : OneResult words-changed.Learnt
   -- numbers
   pub read-be-determined : OneResult read-be.Learnt
   pub ber-oid-len-determined : OneResult ber-oid-len.Learnt
@@ -146,6 +184,24 @@ pub record Determined : Type 0 where
   pub usable-determined : OneResult usable.Learnt
   -- what the program prints
   pub print-pack-determined : OneAnswer print-pack.Learnt (λ κs s. now (s .1 .0))
+  -- what replay answers
+  pub letter-determined : OneResult letter.Learnt
+  pub is-field-determined : OneResult is-field.Learnt
+  pub one-determined : OneResult one.Learnt
+  pub words-determined : OneResult words.Learnt
+  pub refused-determined : OneResult refused.Learnt
+  pub special-of-determined : OneResult special-of.Learnt
+  pub special-determined : OneResult special.Learnt
+  pub of-mapped-determined : OneResult of-mapped.Learnt
+  pub widen-determined : OneResult widen.Learnt
+  pub narrow-determined : OneResult narrow.Learnt
+  pub of-oid-determined : OneResult of-oid.Learnt
+  pub of-written-determined : OneResult of-written.Learnt
+  pub of-peek-determined : OneResult of-peek.Learnt
+  pub of-read-determined : OneResult of-read.Learnt
+  pub of-cell-determined : OneResult of-cell.Learnt
+  pub of-usable-determined : OneResult of-usable.Learnt
+  pub put-reply-determined : OneAnswer put-reply.Learnt (λ κs s. now (s .1 .1 .0))
   -- written, read and compared
   pub round-trip-determined : OneAnswer {L = Lent} round-trip.Learnt (λ κs s. lentOf (now (s .1 .1 .1 .0)) (now (s .1 .1 .1 .1 .0)) (now (s .1 .1 .1 .1 .1 .0)) (now (s .1 .1 .1 .1 .1 .1 .0)))
 
@@ -164,6 +220,16 @@ determined =
       digit-at-determined = digit-at-one;
       decimal-determined = decimal-one;
       hex-determined = hex-one;
+      literal-determined = literal-one;
+      at-end-determined = at-end-one;
+      decimal-up-to-determined = decimal-up-to-one;
+      bits-after-space-determined = bits-after-space-one;
+      entries-determined = entries-one;
+      list-determined = list-one;
+      mark-determined = mark-one;
+      mark-words-determined = mark-words-one;
+      changed-determined = changed-one;
+      words-changed-determined = words-changed-one;
       read-be-determined = read-be-one;
       ber-oid-len-determined = ber-oid-len-one;
       read-ber-oid-determined = read-ber-oid-one;
@@ -208,5 +274,22 @@ determined =
       correlation-determined = correlation-one;
       usable-determined = usable-one;
       print-pack-determined = print-pack-one;
+      letter-determined = letter-one;
+      is-field-determined = is-field-one;
+      one-determined = one-one;
+      words-determined = words-one;
+      refused-determined = refused-one;
+      special-of-determined = special-of-one;
+      special-determined = special-one;
+      of-mapped-determined = of-mapped-one;
+      widen-determined = widen-one;
+      narrow-determined = narrow-one;
+      of-oid-determined = of-oid-one;
+      of-written-determined = of-written-one;
+      of-peek-determined = of-peek-one;
+      of-read-determined = of-read-one;
+      of-cell-determined = of-cell-one;
+      of-usable-determined = of-usable-one;
+      put-reply-determined = put-reply-one;
       round-trip-determined = round-trip-one;
     }
