@@ -1,3 +1,4 @@
 pub mod Table
 pub mod Letters
+pub mod Pairs
 pub mod OneAnswer

@@ -3,3 +3,5 @@ pub mod Reply
 pub mod Special
 pub mod Replies
 pub mod ReplyText
+pub mod Shown
+pub mod Lines

@@ -1,6 +1,7 @@
 //! A reply to a request: a form, and the values that its letters stand for.
 pub mod forms;
 pub mod kind;
+pub mod lines;
 pub mod mapped;
 pub mod numeric;
 pub mod outcome;
@@ -8,3 +9,4 @@ pub mod pack;
 pub mod put;
 pub mod refusal;
 pub mod reply;
+pub mod shown;
