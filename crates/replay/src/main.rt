@@ -7,7 +7,6 @@ mod input;
 mod lent;
 mod lists;
 mod outcome;
-mod pack_lines;
 mod prints;
 mod reads;
 mod request;

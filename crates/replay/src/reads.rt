@@ -4,12 +4,12 @@ use crate::SLOTS;
 use crate::lent;
 use crate::lent::MARK;
 use crate::lent::WORD;
-use crate::pack_lines::put_deviations;
-use crate::pack_lines::put_slots;
 use crate::request::Request;
 use layout::pack::SdccFlp;
 use reader::read::ReadAnswer;
 use reader::read::decode_sdcc_flp;
+use replies::lines::put_deviations;
+use replies::lines::put_slots;
 use replies::pack::of_read;
 use replies::put::put_reply;
 use text::part::within;
@@ -65,7 +65,14 @@ fn put_pack(
     let pack = pack_of(read);
     let said = put_reply(of_read(read), at, out);
     let rowed = put_deviations(pack.deviations, deviations, said, out);
-    let lined = put_slots(pack, correlations, presence, rowed, out);
+    let lined = put_slots(
+        pack.matrix_size,
+        pack.slots,
+        correlations,
+        presence,
+        rowed,
+        out,
+    );
     let touched = changed(request, pack, deviations, correlations, presence);
     lent::put_touched(touched, lined, out)
 }
