@@ -5,13 +5,11 @@ use mathlib.Core.Bool.{true, false, true≢false, _||_}
 use mathlib.Core.List.{List, [], _∷_, _++_}
 use mathlib.Core.Logic.{inl, inr, ⊎-elim}
 use Prim.Native.Nat.{ℕ, suc, _<_, _≤_}
-use native.Mathlib.Omega.{arith}
 use borrow.Author.Tests.{ne-eqb}
 use lib.Dec.{eqb}
 use lib.ListN.{length, getD, drop, drop-of-length-le, List·getD-eq-default}
 use lib.Seq.{drop-cons}
 use types.Run.{OneOf}
-use Rattle.answers.specs.Table.{pick}
 use Rattle.text.proofs.Order.{lt-or-le}
 use Rattle.replies.specs.declared.reply.Reply.{Reply}
 use Rattle.replies.specs.ReplyText.{valueOf, letterText, isEnd, filled}

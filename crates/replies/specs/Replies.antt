@@ -1,6 +1,6 @@
 -- Which reply what the codec answers has: the place of its form, and its values.
 use Prim.Native.Nat.{ℕ, _+_, _-_, _%_, _^_}
-use mathlib.Core.Bool.{Bool, true, false}
+use mathlib.Core.Bool.{Bool}
 use lib.Ieee.{binary32, binary64, toBits}
 use lib.ListN.{getD}
 use Rattle.answers.specs.Table.{pick}

@@ -1,6 +1,5 @@
 -- `refusal::refused` meets its contract: the row is the refusal's.
 -- Assumes nothing.
-use mathlib.Core.Path.{_≡_}
 use mathlib.Core.Bool.{true}
 use Prim.Native.Nat.{_≤_}
 use borrow.Author.Tests.{leb-true}
