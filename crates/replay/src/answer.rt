@@ -4,6 +4,7 @@ use crate::cells::on_matrix;
 use crate::prints::put_print;
 use crate::reads::put_read;
 use crate::request::Request;
+use crate::request::writes;
 use crate::writes::put_write;
 use replies::forms::BAD_REQUEST;
 use replies::numeric;
@@ -50,12 +51,9 @@ pub(crate) fn answer(
     at: usize,
     out: &mut [u8],
 ) -> usize {
-    let form = request.form;
-    match form {
-        9..=20 => put_write(request, lists, bytes, at, out),
-        _ => {
-            let given = within(request.given as usize, bytes);
-            answer_given(request, &bytes[..given], lists, at, out)
-        }
+    if writes(request.form) {
+        return put_write(request, lists, bytes, at, out);
     }
+    let given = within(request.given as usize, bytes);
+    answer_given(request, &bytes[..given], lists, at, out)
 }

@@ -35,6 +35,11 @@ fn unfilled(form: usize) -> Request {
     }
 }
 
+// Whether it is one of map, special and write, which write into what is lent.
+pub(crate) fn writes(form: usize) -> bool {
+    8 < form && form < BAD_REQUEST
+}
+
 impl Request {
     fn with(mut self, letter: u8, value: u64) -> Request {
         match letter {

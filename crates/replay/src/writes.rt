@@ -34,12 +34,6 @@ fn write(request: Request, lists: &[u64], lent: &mut [u8]) -> Written {
     }
 }
 
-fn fill(request: Request, lists: &[u64], lent: &mut [u8], at: usize, out: &mut [u8]) -> usize {
-    mark(lent);
-    let written = write(request, lists, lent);
-    put_written(DONE, written, lent, at, out)
-}
-
 // As much is lent as the request says.
 pub(crate) fn put_write(
     request: Request,
@@ -49,5 +43,8 @@ pub(crate) fn put_write(
     out: &mut [u8],
 ) -> usize {
     let room = within(request.room as usize, bytes);
-    fill(request, lists, &mut bytes[..room], at, out)
+    let lent = &mut bytes[..room];
+    mark(lent);
+    let written = write(request, lists, lent);
+    put_written(DONE, written, lent, at, out)
 }
