@@ -1,9 +1,9 @@
 //! The request for what the program `sdcc` writes: print.
-use crate::lent::MARK;
-use crate::outcome::put_written;
 use answers::Written;
 use replies::forms::EMPTY;
 use report::print::print_pack;
+use shown::written::put_written;
+use text::marks::MARK;
 
 // What any text has room in, and more, so that what stands past it shows.
 const TEXT: usize = 66_000;

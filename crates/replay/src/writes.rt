@@ -1,8 +1,6 @@
 //! The requests that write into what is lent: map, special, write.
-use crate::lent::mark;
 use crate::lists::correlations;
 use crate::lists::deviations;
-use crate::outcome::put_written;
 use crate::request::Request;
 use answers::Written;
 use imapb::encode::encode_imapb;
@@ -10,6 +8,8 @@ use imapb::special::encode_imapb_special;
 use replies::forms::DONE;
 use replies::forms::WRITE;
 use replies::kind::special_of;
+use shown::written::put_written;
+use text::marks::mark;
 use text::part::within;
 use writer::write::encode_sdcc_flp;
 use writer::write::encode_sdcc_flp_mode2;

@@ -1,4 +1,3 @@
 pub mod Table
 pub mod Letters
-pub mod Pairs
 pub mod OneAnswer

@@ -21,9 +21,6 @@ use Rattle.replies.proofs.pack.of_read.Reads as of-read
 use Rattle.replies.proofs.pack.of_cell.Reads as of-cell
 use Rattle.replies.proofs.pack.of_usable.Reads as of-usable
 use Rattle.replies.proofs.put.put_reply.Reads as put-reply
-use Rattle.replies.proofs.shown.put_bytes.Reads as put-bytes
-use Rattle.replies.proofs.lines.put_deviations.Reads as put-deviations
-use Rattle.replies.proofs.lines.put_slots.Reads as put-slots
 
 pub letter-one : OneResult letter.Learnt
 letter-one κs a r r′ s s′ p q = p ∙ sym q
@@ -75,12 +72,3 @@ of-usable-one κs a r r′ s s′ p q = p ∙ sym q
 
 pub put-reply-one : OneAnswer put-reply.Learnt (λ κs s. now (s .1 .1 .0))
 put-reply-one κs a r r′ s s′ p q = put-one p q
-
-pub put-bytes-one : OneAnswer put-bytes.Learnt (λ κs s. now (s .1 .1 .1 .0))
-put-bytes-one κs a r r′ s s′ p q = put-one p q
-
-pub put-deviations-one : OneAnswer put-deviations.Learnt (λ κs s. now (s .1 .1 .1 .0))
-put-deviations-one κs a r r′ s s′ p q = put-one p q
-
-pub put-slots-one : OneAnswer put-slots.Learnt (λ κs s. now (s .1 .1 .1 .1 .1 .0))
-put-slots-one κs a r r′ s s′ p q = put-one p q

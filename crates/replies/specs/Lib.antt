@@ -3,5 +3,3 @@ pub mod Reply
 pub mod Special
 pub mod Replies
 pub mod ReplyText
-pub mod Shown
-pub mod Lines

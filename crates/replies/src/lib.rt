@@ -1,7 +1,6 @@
 //! A reply to a request: a form, and the values that its letters stand for.
 pub mod forms;
 pub mod kind;
-pub mod lines;
 pub mod mapped;
 pub mod numeric;
 pub mod outcome;
@@ -9,4 +8,3 @@ pub mod pack;
 pub mod put;
 pub mod refusal;
 pub mod reply;
-pub mod shown;

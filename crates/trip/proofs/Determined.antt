@@ -85,7 +85,7 @@ use Rattle.matrix.proofs.lookup.correlation.Reads as correlation
 use Rattle.matrix.proofs.usable.usable.Reads as usable
 use Rattle.report.proofs.OneAnswer.{print-pack-one}
 use Rattle.report.proofs.print.print_pack.Reads as print-pack
-use Rattle.replies.proofs.OneAnswer.{letter-one, is-field-one, one-one, words-one, refused-one, special-of-one, special-one, of-mapped-one, widen-one, narrow-one, of-oid-one, of-written-one, of-peek-one, of-read-one, of-cell-one, of-usable-one, put-reply-one, put-bytes-one, put-deviations-one, put-slots-one}
+use Rattle.replies.proofs.OneAnswer.{letter-one, is-field-one, one-one, words-one, refused-one, special-of-one, special-one, of-mapped-one, widen-one, narrow-one, of-oid-one, of-written-one, of-peek-one, of-read-one, of-cell-one, of-usable-one, put-reply-one}
 use Rattle.replies.proofs.forms.letter.Reads as letter
 use Rattle.replies.proofs.forms.is_field.Reads as is-field
 use Rattle.replies.proofs.reply.one.Reads as one
@@ -103,9 +103,13 @@ use Rattle.replies.proofs.pack.of_read.Reads as of-read
 use Rattle.replies.proofs.pack.of_cell.Reads as of-cell
 use Rattle.replies.proofs.pack.of_usable.Reads as of-usable
 use Rattle.replies.proofs.put.put_reply.Reads as put-reply
-use Rattle.replies.proofs.shown.put_bytes.Reads as put-bytes
-use Rattle.replies.proofs.lines.put_deviations.Reads as put-deviations
-use Rattle.replies.proofs.lines.put_slots.Reads as put-slots
+use Rattle.shown.proofs.OneAnswer.{put-bytes-one, put-deviations-one, put-slots-one, put-touched-one, put-written-one, put-pack-one}
+use Rattle.shown.proofs.bytes.put_bytes.Reads as put-bytes
+use Rattle.shown.proofs.lines.put_deviations.Reads as put-deviations
+use Rattle.shown.proofs.lines.put_slots.Reads as put-slots
+use Rattle.shown.proofs.touched.put_touched.Reads as put-touched
+use Rattle.shown.proofs.written.put_written.Reads as put-written
+use Rattle.shown.proofs.pack.put_pack.Reads as put-pack
 use Rattle.trip.proofs.OneAnswer.{round-trip-one}
 use Rattle.trip.proofs.round_trip.round_trip.Reads as round-trip
 
@@ -208,6 +212,9 @@ pub record Determined : Type 0 where
   pub put-bytes-determined : OneAnswer put-bytes.Learnt (λ κs s. now (s .1 .1 .1 .0))
   pub put-deviations-determined : OneAnswer put-deviations.Learnt (λ κs s. now (s .1 .1 .1 .0))
   pub put-slots-determined : OneAnswer put-slots.Learnt (λ κs s. now (s .1 .1 .1 .1 .1 .0))
+  pub put-touched-determined : OneAnswer put-touched.Learnt (λ κs s. now (s .1 .1 .0))
+  pub put-written-determined : OneAnswer put-written.Learnt (λ κs s. now (s .1 .1 .1 .1 .0))
+  pub put-pack-determined : OneAnswer put-pack.Learnt (λ κs s. now (s .1 .1 .1 .1 .1 .1 .0))
   -- written, read and compared
   pub round-trip-determined : OneAnswer {L = Lent} round-trip.Learnt (λ κs s. lentOf (now (s .1 .1 .1 .0)) (now (s .1 .1 .1 .1 .0)) (now (s .1 .1 .1 .1 .1 .0)) (now (s .1 .1 .1 .1 .1 .1 .0)))
 
@@ -300,5 +307,8 @@ determined =
       put-bytes-determined = put-bytes-one;
       put-deviations-determined = put-deviations-one;
       put-slots-determined = put-slots-one;
+      put-touched-determined = put-touched-one;
+      put-written-determined = put-written-one;
+      put-pack-determined = put-pack-one;
       round-trip-determined = round-trip-one;
     }

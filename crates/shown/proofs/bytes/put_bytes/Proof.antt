@@ -1,4 +1,4 @@
--- `shown::put_bytes` meets its contract: each turn puts the next byte behind those before it.
+-- `bytes::put_bytes` meets its contract: each turn puts the next byte behind those before it.
 -- Assumes nothing.
 use mathlib.Core.Path.{refl}
 use Prim.Native.Nat.{_-_}
@@ -6,9 +6,9 @@ use borrow.Author.Needs.{needs}
 use lib.ListN.{length, getD}
 use Rattle.answers.specs.Lent.{joined}
 use Rattle.text.proofs.Pieces.{Puts, puts-none, puts-more, puts-done, put-long}
-use Rattle.replies.specs.Shown.{byteText}
-use Rattle.replies.proofs.shown.put_bytes.Statement.{statement}
-use Rattle.replies.proofs.shown.put_bytes.Tie as tie
+use Rattle.shown.specs.Bytes.{byteText}
+use Rattle.shown.proofs.bytes.put_bytes.Statement.{statement}
+use Rattle.shown.proofs.bytes.put_bytes.Tie as tie
 
 abbrev Inv-loop : tie.InvT-loop
 Inv-loop form bytes at out₀ next₀ i₀ out next i =

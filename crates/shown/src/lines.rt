@@ -1,14 +1,14 @@
 //! The lines of a pack behind its reply, each behind a `;`: an s for each deviation, then a c for each slot.
-use crate::forms::DEVIATION;
-use crate::forms::SLOT;
-use crate::put::put_reply;
-use crate::reply::Reply;
+use replies::forms::DEVIATION;
+use replies::forms::SLOT;
+use replies::put::put_reply;
+use replies::reply::Reply;
 use text::part::within;
 use text::part::within_words;
 ghost use mathlib.Core.Path.{_≡_};
 ghost use Prim.Native.Nat.{_+_, _<_, _^_};
 ghost use Rattle.text.specs.Put.{Put};
-ghost use Rattle.replies.specs.Lines.{deviationReply, deviationLines, slotReply, nextPair, slotLines};
+ghost use Rattle.shown.specs.Lines.{deviationReply, deviationLines, slotReply, nextPair, slotLines};
 
 fn deviation(row: usize, bits: u64) -> Reply
     ensures { λ r. ⌜ r ≡ deviationReply row bits ⌝ }

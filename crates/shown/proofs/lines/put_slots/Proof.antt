@@ -8,11 +8,11 @@ use borrow.Author.Needs.{needs}
 use lib.ListN.{getD}
 use Rattle.answers.specs.Lent.{joined}
 use Rattle.text.proofs.Pieces.{Puts, puts-none, puts-more, puts-done, put-long}
 use Rattle.replies.specs.ReplyText.{replyText}
-use Rattle.replies.specs.Lines.{slotReply, nextPair, pairAt}
-use Rattle.replies.proofs.Pairs.{pair-within}
-use Rattle.replies.proofs.lines.put_slots.Statement.{statement}
-use Rattle.replies.proofs.lines.put_slots.Tie as tie
+use Rattle.shown.specs.Lines.{slotReply, nextPair, pairAt}
+use Rattle.shown.proofs.Pairs.{pair-within}
+use Rattle.shown.proofs.lines.put_slots.Statement.{statement}
+use Rattle.shown.proofs.lines.put_slots.Tie as tie
 
 abbrev Inv-loop : tie.InvT-loop
 Inv-loop rows count correlations presence at out₀ held end next₀ pair₀ k₀ out next pair k =

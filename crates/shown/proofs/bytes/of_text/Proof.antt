@@ -1,8 +1,8 @@
--- `shown::of_text` meets its contract, by cases.
+-- `bytes::of_text` meets its contract, by cases.
 -- Assumes nothing.
 use borrow.Author.Tests.{ne-eqb}
-use Rattle.replies.proofs.shown.of_text.Statement.{statement}
-use Rattle.replies.proofs.shown.of_text.Tie as tie
+use Rattle.shown.proofs.bytes.of_text.Statement.{statement}
+use Rattle.shown.proofs.bytes.of_text.Tie as tie
 
 returns : tie.Need-returns
 returns c = rw (c .if1 .taken)

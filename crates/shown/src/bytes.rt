@@ -1,11 +1,11 @@
 //! Bytes behind a reply: those that were written, in hex, or a text.
-use crate::forms::DONE;
+use replies::forms::DONE;
 use text::part::within;
 use text::put::put_byte;
 use text::put::put_hex;
 ghost use mathlib.Core.Path.{_≡_};
 ghost use Rattle.text.specs.Put.{Put};
-ghost use Rattle.replies.specs.Shown.{ofText, byteText, bytesText};
+ghost use Rattle.shown.specs.Bytes.{ofText, byteText, bytesText};
 
 // A byte of a text: lines are joined by `;`.
 fn of_text(byte: u8) -> u8

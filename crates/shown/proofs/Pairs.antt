@@ -5,8 +5,8 @@ use Prim.Native.Nat.{ℕ, zero, suc, _+_, _≤_}
 use native.Mathlib.Omega.{arith}
 use lib.Dec.{ltb}
 use Rattle.answers.specs.Table.{pick}
-use Rattle.replies.specs.declared.lines.Pair.{Pair}
-use Rattle.replies.specs.Lines.{pair, pairAt}
+use Rattle.shown.specs.declared.lines.Pair.{Pair}
+use Rattle.shown.specs.Lines.{pair, pairAt}
 
 abbrev Within : ℕ → Pair → Type 0
 Within k p = (p .i ≤ k) × (p .j ≤ k + 1)

@@ -5,10 +5,10 @@ use lib.Dec.{ltb}
 use lib.ListN.{length, getD}
 use Rattle.answers.specs.Table.{pick}
 use Rattle.answers.specs.Lent.{joined}
-use Rattle.replies.specs.declared.lines.Pair.{Pair}
+use Rattle.shown.specs.declared.lines.Pair.{Pair}
 use Rattle.replies.specs.declared.reply.Reply.{Reply}
 use Rattle.replies.specs.Reply.{reply}
 use Rattle.replies.specs.ReplyText.{replyText}
 
 -- row, bits
 abbrev pub deviationReply : ℕ → ℕ → Reply

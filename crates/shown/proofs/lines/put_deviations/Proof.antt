@@ -7,10 +7,10 @@ use borrow.Author.Needs.{needs}
 use lib.ListN.{getD}
 use Rattle.answers.specs.Lent.{joined}
 use Rattle.text.proofs.Pieces.{Puts, puts-none, puts-more, puts-done, put-long}
 use Rattle.replies.specs.ReplyText.{replyText}
-use Rattle.replies.specs.Lines.{deviationReply}
-use Rattle.replies.proofs.lines.put_deviations.Statement.{statement}
-use Rattle.replies.proofs.lines.put_deviations.Tie as tie
+use Rattle.shown.specs.Lines.{deviationReply}
+use Rattle.shown.proofs.lines.put_deviations.Statement.{statement}
+use Rattle.shown.proofs.lines.put_deviations.Tie as tie
 
 abbrev Inv-loop : tie.InvT-loop
 Inv-loop count deviations at out₀ end next₀ i₀ out next i =

@@ -4,8 +4,8 @@ use Prim.Native.Nat.{_+_}
 use native.Mathlib.Omega.{arith}
 use borrow.Author.Tests.{lt-ltb, le-ltb}
 use borrow.Author.Needs.{needs}
-use Rattle.replies.proofs.lines.next_pair.Statement.{statement}
-use Rattle.replies.proofs.lines.next_pair.Tie as tie
+use Rattle.shown.proofs.lines.next_pair.Statement.{statement}
+use Rattle.shown.proofs.lines.next_pair.Tie as tie
 
 add-right : tie.Need-add-right
 add-right c = search needs

@@ -1,9 +1,9 @@
--- `shown::put_shown` meets its contract, by the form.
+-- `bytes::put_shown` meets its contract, by the form.
 -- Assumes nothing.
 use borrow.Author.Tests.{ne-eqb}
 use borrow.Author.Needs.{needs}
-use Rattle.replies.proofs.shown.put_shown.Statement.{statement}
-use Rattle.replies.proofs.shown.put_shown.Tie as tie
+use Rattle.shown.proofs.bytes.put_shown.Statement.{statement}
+use Rattle.shown.proofs.bytes.put_shown.Tie as tie
 
 put-hex-requires : tie.Need-put-hex-requires
 put-hex-requires c κs = search needs

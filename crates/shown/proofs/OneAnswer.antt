@@ -1,0 +1,29 @@
+-- No second answer meets a contract: two that do are the same, with what they leave in lent memory.
+-- Assumes nothing.
+use denote.Ref.{now}
+use Rattle.answers.specs.OneAnswer.{OneAnswer}
+use Rattle.text.proofs.OneAnswer.{put-one}
+use Rattle.shown.proofs.bytes.put_bytes.Reads as put-bytes
+use Rattle.shown.proofs.lines.put_deviations.Reads as put-deviations
+use Rattle.shown.proofs.lines.put_slots.Reads as put-slots
+use Rattle.shown.proofs.touched.put_touched.Reads as put-touched
+use Rattle.shown.proofs.written.put_written.Reads as put-written
+use Rattle.shown.proofs.pack.put_pack.Reads as put-pack
+
+pub put-bytes-one : OneAnswer put-bytes.Learnt (λ κs s. now (s .1 .1 .1 .0))
+put-bytes-one κs a r r′ s s′ p q = put-one p q
+
+pub put-deviations-one : OneAnswer put-deviations.Learnt (λ κs s. now (s .1 .1 .1 .0))
+put-deviations-one κs a r r′ s s′ p q = put-one p q
+
+pub put-slots-one : OneAnswer put-slots.Learnt (λ κs s. now (s .1 .1 .1 .1 .1 .0))
+put-slots-one κs a r r′ s s′ p q = put-one p q
+
+pub put-touched-one : OneAnswer put-touched.Learnt (λ κs s. now (s .1 .1 .0))
+put-touched-one κs a r r′ s s′ p q = put-one p q
+
+pub put-written-one : OneAnswer put-written.Learnt (λ κs s. now (s .1 .1 .1 .1 .0))
+put-written-one κs a r r′ s s′ p q = put-one p q
+
+pub put-pack-one : OneAnswer put-pack.Learnt (λ κs s. now (s .1 .1 .1 .1 .1 .1 .0))
+put-pack-one κs a r r′ s s′ p q = put-one p q

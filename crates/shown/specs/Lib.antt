@@ -1,0 +1,5 @@
+pub mod Bytes
+pub mod Lines
+pub mod Touched
+pub mod Written
+pub mod Pack

@@ -1,0 +1,11 @@
+-- The end of an answer.
+use Prim.Native.Nat.{ℕ}
+use mathlib.Core.Bool.{Bool}
+use mathlib.Core.List.{List}
+use Rattle.answers.specs.Table.{pick}
+use Rattle.replies.specs.Reply.{wordsReply}
+use Rattle.replies.specs.ReplyText.{replyText}
+
+-- where lent memory was changed that was to be left, ` touched`, form 43; otherwise nothing, form 27
+abbrev pub touchedText : Bool → List ℕ
+touchedText changed = replyText (wordsReply (pick changed 43 27))
