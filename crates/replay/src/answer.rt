@@ -1,13 +1,18 @@
 //! The answer to a request: each calls a function of the port, and puts what that answers.
-use crate::bytes;
 use crate::cells::on_matrix;
 use crate::prints::put_print;
 use crate::reads::put_read;
 use crate::request::Request;
 use crate::request::writes;
 use crate::writes::put_write;
+use imapb::decode::decode_imapb;
+use layout::size::peek_matrix_size;
+use numbers::ber_oid::read_ber_oid;
 use replies::forms::BAD_REQUEST;
+use replies::mapped::of_mapped;
 use replies::numeric;
+use replies::numeric::of_oid;
+use replies::pack::of_peek;
 use replies::put::put_reply;
 use replies::reply::Reply;
 use replies::reply::words;
@@ -19,9 +24,9 @@ fn short(request: Request, given: &[u8], lists: &[u64]) -> Reply {
     match form {
         0 => numeric::widen(request.value),
         1 => numeric::narrow(request.value),
-        2 => bytes::oid(given),
-        3 => bytes::mapped(request.size as usize, given),
-        4 => bytes::peek(given),
+        2 => of_oid(read_ber_oid(given), given.len()),
+        3 => of_mapped(decode_imapb(request.size as usize, given)),
+        4 => of_peek(peek_matrix_size(given)),
         5 | 6 => on_matrix(request, lists),
         _ => words(BAD_REQUEST),
     }

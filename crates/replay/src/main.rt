@@ -1,6 +1,5 @@
 //! Answers requests: a line of standard input each, and a line of standard output for each.
 mod answer;
-mod bytes;
 mod cells;
 mod fields;
 mod input;
@@ -34,12 +33,6 @@ const HELD: usize = 65_536;
 
 const OUT: usize = 2 * HELD + LINE;
 
-// How much of a line was read, and how much of the output is held.
-struct Held {
-    read: usize,
-    at: usize,
-}
-
 // How much of a line is a request: nothing of one that fills its room. An empty line is a bad request too.
 fn fitting(read: usize, room: usize) -> usize {
     if read < room { read } else { 0 }
@@ -59,10 +52,11 @@ fn answer_line(
     flush_above(HELD, put_byte(b'\n', answered, out), out)
 }
 
-// Answers each line that the block ends. What a line has no room for is dropped.
-fn feed(block: &[u8], line: &mut [u8], words: &mut [u64], out: &mut [u8], state: Held) -> Held {
-    let mut read = state.read;
-    let mut at = state.at;
+// Answers each line that the block ends, and says how much of the next is read. What a line has no room for is dropped.
+// What is held is written before the next block is read, so that whoever asks line by line is answered at once.
+fn feed(block: &[u8], begun: usize, line: &mut [u8], words: &mut [u64], out: &mut [u8]) -> usize {
+    let mut read = begun;
+    let mut at: usize = 0;
     let mut i: usize = 0;
     while i < block.len() {
         let byte = block[i];
@@ -74,7 +68,8 @@ fn feed(block: &[u8], line: &mut [u8], words: &mut [u64], out: &mut [u8], state:
             read = put_byte(byte, read, line);
         }
     }
-    Held { read, at }
+    flush_above(0, at, out);
+    read
 }
 
 // The arrays come from calls: the check would count the elements of one that `main` makes itself.
@@ -91,26 +86,20 @@ fn room_for_output() -> [u8; OUT] {
 }
 
 // The turns are counted down, from a number that no run uses up, since nothing says that the input ends.
-// What is held is written before the next block is read, so that whoever asks line by line is answered at once.
 fn main() {
     let mut block = io::large_buffer();
     let mut line = room_for_line();
     let mut words = room_for_words();
     let mut out = room_for_output();
-    let mut state = Held { read: 0, at: 0 };
+    let mut read: usize = 0;
     let mut turns = u64::MAX;
     while 0 < turns {
         turns -= 1;
-        flush_above(0, state.at, &out);
-        let got = refill(&mut block, state.read);
+        let got = refill(&mut block, read);
         let end = within(got, &block);
         if end == 0 {
             return;
         }
-        let begun = Held {
-            read: state.read,
-            at: 0,
-        };
-        state = feed(&block[..end], &mut line, &mut words, &mut out, begun);
+        read = feed(&block[..end], read, &mut line, &mut words, &mut out);
     }
 }

@@ -23,16 +23,16 @@ fn room_for_presence() -> [u8; SLOTS] {
 
 // As much is lent as the request says.
 fn read(
-    request: Request,
+    lent: Lent,
     pack: &[u8],
     deviations: &mut [u64],
     correlations: &mut [u64],
     presence: &mut [u8],
 ) -> ReadAnswer {
-    mark_words(correlations, request.slots);
-    let rows = within_words(request.rows as usize, deviations);
-    let slots = within_words(request.slots as usize, correlations);
-    let flags = within(request.room as usize, presence);
+    mark_words(correlations, lent.correlations);
+    let rows = within_words(lent.deviations as usize, deviations);
+    let slots = within_words(lent.correlations as usize, correlations);
+    let flags = within(lent.presence as usize, presence);
     decode_sdcc_flp(
         pack,
         &mut deviations[..rows],
@@ -50,11 +50,11 @@ pub(crate) fn put_read(
 ) -> usize {
     let mut deviations = room_for_deviations();
     let mut presence = room_for_presence();
-    let read = read(request, pack, &mut deviations, correlations, &mut presence);
     let lent = Lent {
         deviations: request.rows,
         correlations: request.slots,
         presence: request.room,
     };
+    let read = read(lent, pack, &mut deviations, correlations, &mut presence);
     put_pack(lent, read, &deviations, correlations, &presence, at, out)
 }

@@ -8,11 +8,11 @@ use Rattle.replay.proofs.feed.Statement.{statement}
 use Rattle.replay.proofs.feed.Tie as tie
 
 abbrev Inv-loop : tie.InvT-loop
-Inv-loop block line₀ words₀ out₀ read₀ at₀ i₀ line words out read at i =
+Inv-loop block begun line₀ words₀ out₀ read₀ at₀ i₀ line words out read at i =
     (length line ≡ length line₀) × (length words ≡ length words₀) × (length out ≡ length out₀)
 
 abbrev μ-loop : tie.MeasureT-loop
-μ-loop block line₀ words₀ out₀ read₀ at₀ i₀ line words out read at i = length block - i
+μ-loop block begun line₀ words₀ out₀ read₀ at₀ i₀ line words out read at i = length block - i
 
 pub feed-spec : {M : Type 1} → statement M
 feed-spec =
@@ -27,6 +27,7 @@ feed-spec =
     (λ c. search needs)
     (λ c. search needs)
     (λ c κs. search needs)
+    (λ c. search needs)
     (λ c. search needs)
     (λ c. search needs)
     (λ c. search needs)

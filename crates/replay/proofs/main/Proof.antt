@@ -7,12 +7,12 @@ use Rattle.replay.proofs.main.Statement.{statement}
 use Rattle.replay.proofs.main.Tie as tie
 
 abbrev Inv-loop : tie.InvT-loop
-Inv-loop block₀ line₀ words₀ out₀ state₀ turns₀ block line words out state turns =
+Inv-loop block₀ line₀ words₀ out₀ read₀ turns₀ block line words out read turns =
     (length block ≡ length block₀) × (length line ≡ length line₀)
     × (length words ≡ length words₀) × (length out ≡ length out₀)
 
 abbrev μ-loop : tie.MeasureT-loop
-μ-loop block₀ line₀ words₀ out₀ state₀ turns₀ block line words out state turns = turns
+μ-loop block₀ line₀ words₀ out₀ read₀ turns₀ block line words out read turns = turns
 
 large-buffer-requires : tie.Need-large-buffer-requires Inv-loop μ-loop
 large-buffer-requires c κs = search needs
@@ -31,12 +31,6 @@ loop-holds c = search needs
 
 sub-turns : tie.Need-sub-turns Inv-loop μ-loop
 sub-turns c = search needs
-
-slice-aggregate-flush-above : tie.Need-slice-aggregate-flush-above Inv-loop μ-loop
-slice-aggregate-flush-above c = search needs
-
-flush-above-requires : tie.Need-flush-above-requires Inv-loop μ-loop
-flush-above-requires c κs = search needs
 
 slice-aggregate-refill : tie.Need-slice-aggregate-refill Inv-loop μ-loop
 slice-aggregate-refill c = search needs
@@ -92,8 +86,6 @@ main-spec =
     room-for-output-requires
     loop-holds
     sub-turns
-    slice-aggregate-flush-above
-    flush-above-requires
     slice-aggregate-refill
     refill-requires
     slice-aggregate-within
