@@ -1,6 +1,5 @@
 -- A contract that no second answer meets, said of the contract itself: `learnt` is what a caller learns of a call, by
--- the
--- lifetimes κs, the arguments a, the result r and the parameters at exit s.
+-- the lifetimes κs, the arguments a, the result r and the parameters at exit s.
 use mathlib.Core.Path.{_≡_}
 
 module _ {K : Type 0} {A R S : K → Type 0} where

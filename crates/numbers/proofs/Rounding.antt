@@ -1,6 +1,5 @@
 -- The bit pattern of a rounded fraction, one law for every conversion: the exponent's field and the digits come from
--- one sum, and a
--- carry out of the digits goes into the field by itself.
+-- one sum, and a carry out of the digits goes into the field by itself.
 -- Assumes nothing.
 use mathlib.Core.Path.{_≡_, refl, sym, ap, ap₂, _∙_, subst}
 use mathlib.Core.Bool.{Bool, true, false, not, cond}
@@ -193,8 +192,7 @@ bits-of-round f s num den =
     ∙ bits-of-units f s (kept (prec f) n den) (drop (prec f) n den) (kept-le (prec f) n den) (kept-ge (prec f) n den (two-le-pos (prec f) (two f)))
 
 -- The law that the conversions cite: m * 2 ^ j / 2 ^ l, for an m of suc z digits. k digits are dropped; m is moved up
--- by d digits and
--- rounded at the c lowest.
+-- by d digits and rounded at the c lowest.
 pub rounded-bits : (f : Format) (s : Bool) (m z j l : ℕ) → m < 2 ^ suc z → 2 ^ z ≤ m
     → (k c d : ℕ) → suc z + (j + low f) - l - prec f ≡ k → j + low f + c ≡ l + k + d
     → toBits f (round f s (m * 2 ^ j) (2 ^ l)) ≡ cond s (top f) 0 + min (k * hid f + closest (m * 2 ^ d) (2 ^ c)) (ones f * hid f)

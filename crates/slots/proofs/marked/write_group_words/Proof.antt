@@ -1,6 +1,5 @@
 -- `marked::write_group_words` meets its contract: each turn adds the bit of the next slot, if it is sent, to their
--- byte,
--- and puts its word over what the one before it left.
+-- byte, and puts its word over what the one before it left.
 -- Assumes nothing.
 use mathlib.Core.Path.{_∙_}
 use mathlib.Core.Logic.{⊎-elim}

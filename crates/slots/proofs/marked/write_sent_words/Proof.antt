@@ -1,6 +1,5 @@
 -- `marked::write_sent_words` meets its contract: each turn puts eight slots' words over what those before them left,
--- and
--- their byte of the Bit Vector.
+-- and their byte of the Bit Vector.
 -- Assumes nothing.
 use Prim.Native.Nat.{_-_, _/_, _<_}
 use native.Mathlib.Omega.{arith}
