@@ -4,4 +4,5 @@ pub mod Figures
 pub mod Line
 pub mod Marked
 pub mod Entered
+pub mod Spelled
 pub mod OneAnswer

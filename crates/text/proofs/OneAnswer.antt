@@ -27,6 +27,7 @@ use Rattle.text.proofs.numeral.literal.Reads as literal
 use Rattle.text.proofs.numeral.at_end.Reads as at-end
 use Rattle.text.proofs.numeral.decimal_up_to.Reads as decimal-up-to
 use Rattle.text.proofs.numeral.bits_after_space.Reads as bits-after-space
+use Rattle.text.proofs.string.byte_string.Reads as byte-string
 
 pub within-one : OneResult within.Learnt
 within-one κs a r r′ s s′ p q = p .1 ∙ sym (q .1)
@@ -95,3 +96,6 @@ entries-one κs a r r′ s s′ p q = (p .0 ∙ sym (q .0), p .1 ∙ sym (q .1))
 
 pub list-one : OneAnswer list.Learnt (λ κs s. now (s .1 .1 .0))
 list-one κs a r r′ s s′ p q = (p .0 ∙ sym (q .0), p .1 ∙ sym (q .1))
+
+pub byte-string-one : OneAnswer byte-string.Learnt (λ κs s. now (s .0))
+byte-string-one κs a r r′ s s′ p q = (p .0 ∙ sym (q .0), p .1 ∙ sym (q .1))

@@ -3,3 +3,4 @@ pub mod Put
 pub mod Numeral
 pub mod Marks
 pub mod Entries
+pub mod Strings

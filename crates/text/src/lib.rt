@@ -4,3 +4,4 @@ pub mod marks;
 pub mod numeral;
 pub mod part;
 pub mod put;
+pub mod string;
