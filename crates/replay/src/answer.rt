@@ -2,8 +2,6 @@
 use crate::cells::on_matrix;
 use crate::prints::put_print;
 use crate::reads::put_read;
-use crate::request::Request;
-use crate::request::writes;
 use crate::writes::put_write;
 use imapb::decode::decode_imapb;
 use layout::size::peek_matrix_size;
@@ -16,6 +14,7 @@ use replies::pack::of_peek;
 use replies::put::put_reply;
 use replies::reply::Reply;
 use replies::reply::words;
+use requests::request::Request;
 use text::part::within;
 
 // The requests that are answered by a form alone.
@@ -46,6 +45,11 @@ fn answer_given(
         8 => put_read(request, given, lists, at, out),
         _ => put_reply(short(request, given, lists), at, out),
     }
+}
+
+// Whether it is one of map, special and write, which write into what is lent.
+fn writes(form: usize) -> bool {
+    8 < form && form < BAD_REQUEST
 }
 
 // What a request gives stands in the front of the bytes, and what it writes goes there.

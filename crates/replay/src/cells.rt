@@ -1,7 +1,6 @@
 //! The requests on a matrix: cell, usable.
 use crate::lists::correlations;
 use crate::lists::deviations;
-use crate::request::Request;
 use layout::pack::SdccFlp;
 use matrix::lookup::correlation;
 use matrix::usable::usable;
@@ -9,6 +8,7 @@ use replies::forms::CELL;
 use replies::pack::of_cell;
 use replies::pack::of_usable;
 use replies::reply::Reply;
+use requests::request::Request;
 
 // The counts are the pack's own, and what is lent holds just those entries.
 pub(crate) fn on_matrix(request: Request, lists: &[u64]) -> Reply {

@@ -1,5 +1,5 @@
 //! The lists of a request: the deviations stand in the first ROWS of the words, the correlations behind them.
-use crate::ROWS;
+use requests::limits::ROWS;
 use text::part::within_words;
 
 pub(crate) fn deviations(words: &[u64], count: u64) -> &[u64] {

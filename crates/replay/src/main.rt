@@ -1,32 +1,24 @@
 //! Answers requests: a line of standard input each, and a line of standard output for each.
 mod answer;
 mod cells;
-mod fields;
 mod input;
 mod lists;
 mod prints;
 mod reads;
-mod request;
 mod writes;
 
 use answer::answer;
 use input::flush_above;
 use input::refill;
-use layout::pack::SdccFlp;
-use request::read_request;
+use requests::limits::BYTES;
+use requests::limits::ROWS;
+use requests::limits::SLOTS;
+use requests::request::read_request;
 use text::part::within;
 use text::put::put_byte;
 
-// No request is lent more.
-const BYTES: usize = 600_000;
-
 // A request of so many bytes in hex, with the words before them, or of 33,300 numbers of 16 digits.
 const LINE: usize = 2 * BYTES + 128;
-
-// A request can be lent more than the largest pack has, so that what stands past it shows.
-const ROWS: usize = 4 * SdccFlp::MAX_ROWS as usize;
-
-const SLOTS: usize = SdccFlp::MAX_SLOTS as usize + 1152;
 
 // As much is held at most as a block has, and an answer has room behind it.
 const HELD: usize = 65_536;

@@ -1,9 +1,9 @@
 //! The request that reads a pack: read.
-use crate::ROWS;
-use crate::SLOTS;
-use crate::request::Request;
 use reader::read::ReadAnswer;
 use reader::read::decode_sdcc_flp;
+use requests::limits::ROWS;
+use requests::limits::SLOTS;
+use requests::request::Request;
 use shown::pack::Lent;
 use shown::pack::put_pack;
 use text::marks::MARK;

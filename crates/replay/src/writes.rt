@@ -1,13 +1,13 @@
 //! The requests that write into what is lent: map, special, write.
 use crate::lists::correlations;
 use crate::lists::deviations;
-use crate::request::Request;
 use answers::Written;
 use imapb::encode::encode_imapb;
 use imapb::special::encode_imapb_special;
 use replies::forms::DONE;
 use replies::forms::WRITE;
 use replies::kind::special_of;
+use requests::request::Request;
 use shown::written::put_written;
 use text::marks::mark;
 use text::part::within;

@@ -8,7 +8,7 @@ use Rattle.answers.specs.OneAnswer.{OneResult, OneAnswer}
 use Rattle.trip.specs.Tripped.{Lent, lentOf}
 use Rattle.answers.proofs.OneAnswer.{row-of-one}
 use Rattle.answers.proofs.row.row_of.Reads as row-of
-use Rattle.text.proofs.OneAnswer.{within-one, within-words-one, put-byte-one, put-text-one, put-decimal-one, put-named-one, put-hex-one, put-bits-one, digit-at-one, decimal-one, hex-one, literal-one, at-end-one, decimal-up-to-one, bits-after-space-one, entries-one, list-one, mark-one, mark-words-one, changed-one, words-changed-one}
+use Rattle.text.proofs.OneAnswer.{within-one, within-words-one, put-byte-one, put-text-one, put-decimal-one, put-named-one, put-hex-one, put-bits-one, digit-at-one, decimal-one, hex-one, literal-one, at-end-one, decimal-up-to-one, bits-after-space-one, entries-one, list-one, byte-string-one, mark-one, mark-words-one, changed-one, words-changed-one}
 use Rattle.text.proofs.part.within.Reads as within
 use Rattle.text.proofs.part.within_words.Reads as within-words
 use Rattle.text.proofs.put.put_byte.Reads as put-byte
@@ -26,6 +26,7 @@ use Rattle.text.proofs.numeral.decimal_up_to.Reads as decimal-up-to
 use Rattle.text.proofs.numeral.bits_after_space.Reads as bits-after-space
 use Rattle.text.proofs.list.entries.Reads as entries
 use Rattle.text.proofs.list.list.Reads as list
+use Rattle.text.proofs.string.byte_string.Reads as byte-string
 use Rattle.text.proofs.marks.mark.Reads as mark
 use Rattle.text.proofs.marks.mark_words.Reads as mark-words
 use Rattle.text.proofs.marks.changed.Reads as changed
@@ -110,6 +111,8 @@ use Rattle.shown.proofs.lines.put_slots.Reads as put-slots
 use Rattle.shown.proofs.touched.put_touched.Reads as put-touched
 use Rattle.shown.proofs.written.put_written.Reads as put-written
 use Rattle.shown.proofs.pack.put_pack.Reads as put-pack
+use Rattle.requests.proofs.OneAnswer.{read-request-one}
+use Rattle.requests.proofs.request.read_request.Reads as read-request
 use Rattle.trip.proofs.OneAnswer.{round-trip-one}
 use Rattle.trip.proofs.round_trip.round_trip.Reads as round-trip
 
@@ -134,6 +137,7 @@ pub record Determined : Type 0 where
   pub bits-after-space-determined : OneResult bits-after-space.Learnt
   pub entries-determined : OneAnswer entries.Learnt (λ κs s. now (s .1 .1 .0))
   pub list-determined : OneAnswer list.Learnt (λ κs s. now (s .1 .1 .0))
+  pub byte-string-determined : OneAnswer byte-string.Learnt (λ κs s. now (s .0))
   pub mark-determined : OneAnswer mark.Learnt (λ κs s. now (s .0))
   pub mark-words-determined : OneAnswer mark-words.Learnt (λ κs s. now (s .0))
   pub changed-determined : OneResult changed.Learnt
@@ -191,7 +195,8 @@ pub record Determined : Type 0 where
   pub usable-determined : OneResult usable.Learnt
   -- what the program prints
   pub print-pack-determined : OneAnswer print-pack.Learnt (λ κs s. now (s .1 .0))
-  -- what replay answers
+  -- what replay is asked, and what it answers
+  pub read-request-determined : OneAnswer {L = List ℕ × List ℕ} read-request.Learnt (λ κs s. (now (s .0), now (s .1 .0)))
   pub letter-determined : OneResult letter.Learnt
   pub is-field-determined : OneResult is-field.Learnt
   pub one-determined : OneResult one.Learnt
@@ -239,6 +244,7 @@ determined =
       bits-after-space-determined = bits-after-space-one;
       entries-determined = entries-one;
       list-determined = list-one;
+      byte-string-determined = byte-string-one;
       mark-determined = mark-one;
       mark-words-determined = mark-words-one;
       changed-determined = changed-one;
@@ -287,6 +293,7 @@ determined =
       correlation-determined = correlation-one;
       usable-determined = usable-one;
       print-pack-determined = print-pack-one;
+      read-request-determined = read-request-one;
       letter-determined = letter-one;
       is-field-determined = is-field-one;
       one-determined = one-one;

@@ -1,29 +1,33 @@
 //! Which request a line is.
 use crate::fields::field;
+use crate::form::form_of;
 use replies::forms::BAD_REQUEST;
 use replies::forms::WIDTH;
-use replies::forms::is_field;
 use replies::forms::letter;
 use text::numeral::Numeral;
+ghost use mathlib.Core.Path.{_≡_};
+ghost use Rattle.requests.specs.Request.{unfilled, with, requestOf, lineLeft, wordsLeft};
 
 // A request: its form, and what its fields say.
-pub(crate) struct Request {
-    pub(crate) form: usize,
+pub struct Request {
+    pub form: usize,
     // N: a matrix size, the length of a code or Clen
-    pub(crate) size: u64,
+    pub size: u64,
     // W and X: the bits of a number; P: a payload; I: a row
-    pub(crate) value: u64,
+    pub value: u64,
     // H: how many bytes are given; J: a column
-    pub(crate) given: u64,
+    pub given: u64,
     // R and F: the room for bytes
-    pub(crate) room: u64,
+    pub room: u64,
     // S and D: the deviations, or the room for them
-    pub(crate) rows: u64,
+    pub rows: u64,
     // C and E: the correlations, or the room for them
-    pub(crate) slots: u64,
+    pub slots: u64,
 }
 
-fn unfilled(form: usize) -> Request {
+fn unfilled(form: usize) -> Request
+    ensures { λ r. ⌜ r ≡ unfilled form ⌝ }
+{
     Request {
         form,
         size: 0,
@@ -35,13 +39,10 @@ fn unfilled(form: usize) -> Request {
     }
 }
 
-// Whether it is one of map, special and write, which write into what is lent.
-pub(crate) fn writes(form: usize) -> bool {
-    8 < form && form < BAD_REQUEST
-}
-
 impl Request {
-    fn with(mut self, letter: u8, value: u64) -> Request {
+    fn with(mut self, letter: u8, value: u64) -> Request
+        ensures { λ r. ⌜ r ≡ with letter value self ⌝ }
+    {
         match letter {
             b'N' => self.size = value,
             b'I' | b'P' | b'W' | b'X' => self.value = value,
@@ -55,36 +56,12 @@ impl Request {
     }
 }
 
-// Whether the line begins as a form does, up to its first field.
-fn begins_as(form: usize, line: &[u8]) -> bool {
-    let mut i: usize = 0;
-    while i < line.len() {
-        let letter = letter(form, i);
-        if is_field(letter) {
-            return true;
-        }
-        if line[i] != letter {
-            return false;
-        }
-        i += 1;
-    }
-    false
-}
-
-// The one form that the line begins as.
-fn form_of(line: &[u8]) -> usize {
-    let mut form: usize = 0;
-    while form < BAD_REQUEST {
-        if begins_as(form, line) {
-            return form;
-        }
-        form += 1;
-    }
-    BAD_REQUEST
-}
-
 // The request that the line is, with its byte string in the line's front and its lists in the words.
-pub(crate) fn read_request(line: &mut [u8], words: &mut [u64]) -> Request {
+pub fn read_request(line: &mut [u8], words: &mut [u64]) -> Request
+    ensures { λ r. ⌜ r ≡ requestOf (now (line .entry)) (now (words .entry)) ⌝ }
+    ensures { λ r. ⌜ now (line .exit) ≡ lineLeft (now (line .entry)) (now (words .entry)) ⌝ }
+    ensures { λ r. ⌜ now (words .exit) ≡ wordsLeft (now (line .entry)) (now (words .entry)) ⌝ }
+{
     let form = form_of(line);
     let mut request = unfilled(form);
     let mut at: usize = 0;

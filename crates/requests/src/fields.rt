@@ -1,7 +1,7 @@
 //! The fields of a request, each read from a place of its line on.
-use crate::BYTES;
-use crate::ROWS;
-use crate::SLOTS;
+use crate::limits::BYTES;
+use crate::limits::ROWS;
+use crate::limits::SLOTS;
 use text::list::list;
 use text::numeral::Numeral;
 use text::numeral::at_end;
@@ -9,36 +9,15 @@ use text::numeral::decimal_up_to;
 use text::numeral::hex;
 use text::numeral::literal;
 use text::part::within_words;
-
-// The byte string of so many bytes, up to a place. One that is empty is spelled `-`.
-fn spelled(count: usize, line: &[u8], next: usize) -> Numeral {
-    if count == 0 {
-        return literal(b'-', line, next);
-    }
-    Numeral::Read {
-        value: count as u64,
-        next,
-    }
-}
-
-// The bytes that pairs of hex digits spell, into the front of the line itself, which has been read that far.
-fn byte_string(line: &mut [u8], at: usize) -> Numeral {
-    let mut next = at;
-    let mut count: usize = 0;
-    while count < line.len() {
-        let pair = hex(line, next, 2);
-        let Numeral::Read { value, next: after } = pair else {
-            return spelled(count, line, next);
-        };
-        line[count] = (value % 256) as u8;
-        next = after;
-        count += 1;
-    }
-    Numeral::Malformed
-}
+use text::string::byte_string;
+ghost use mathlib.Core.Path.{_≡_};
+ghost use lib.ListN.{length};
+ghost use Rattle.requests.specs.Fields.{most, numberAt, fieldAt, lineAfter, wordsAfter, listOf, wordsOf};
 
 // The most that a field's number may be: a room is at most what there is.
-fn most(letter: u8) -> u64 {
+fn most(letter: u8) -> u64
+    ensures { λ r. ⌜ r ≡ most letter ⌝ }
+{
     match letter {
         b'D' => ROWS as u64,
         b'E' | b'F' => SLOTS as u64,
@@ -48,7 +27,9 @@ fn most(letter: u8) -> u64 {
 }
 
 // The number that a letter stands for, or the letter itself.
-fn number(letter: u8, line: &[u8], at: usize) -> Numeral {
+fn number(letter: u8, line: &[u8], at: usize) -> Numeral
+    ensures { λ r. ⌜ r ≡ numberAt letter (now (line .entry)) at ⌝ }
+{
     match letter {
         b'W' => hex(line, at, 8),
         b'X' => hex(line, at, 16),
@@ -60,7 +41,10 @@ fn number(letter: u8, line: &[u8], at: usize) -> Numeral {
 }
 
 // The deviations go into the first ROWS of the words, the correlations behind them.
-fn list_of(letter: u8, line: &[u8], at: usize, words: &mut [u64]) -> Numeral {
+fn list_of(letter: u8, line: &[u8], at: usize, words: &mut [u64]) -> Numeral
+    ensures { λ r. ⌜ r ≡ listOf letter (now (line .entry)) at (now (words .entry)) ⌝ }
+    ensures { λ r. ⌜ now (words .exit) ≡ wordsOf letter (now (line .entry)) at (now (words .entry)) ⌝ }
+{
     let rows = within_words(ROWS, words);
     if letter == b'S' {
         list(line, at, &mut words[..rows])
@@ -70,7 +54,11 @@ fn list_of(letter: u8, line: &[u8], at: usize, words: &mut [u64]) -> Numeral {
 }
 
 // What a letter stands for.
-pub(crate) fn field(letter: u8, line: &mut [u8], at: usize, words: &mut [u64]) -> Numeral {
+pub(crate) fn field(letter: u8, line: &mut [u8], at: usize, words: &mut [u64]) -> Numeral
+    ensures { λ r. ⌜ r ≡ fieldAt letter (now (line .entry)) at (now (words .entry)) ⌝ }
+    ensures { λ r. ⌜ now (line .exit) ≡ lineAfter letter (now (line .entry)) at ⌝ }
+    ensures { λ r. ⌜ now (words .exit) ≡ wordsAfter letter (now (line .entry)) at (now (words .entry)) ⌝ }
+{
     match letter {
         b'H' => byte_string(line, at),
         b'S' | b'C' => list_of(letter, line, at, words),

@@ -1,0 +1,5 @@
+pub mod Letters
+pub mod Begins
+pub mod Parts
+pub mod Asked
+pub mod OneAnswer

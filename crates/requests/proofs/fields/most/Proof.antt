@@ -1,0 +1,41 @@
+-- `fields::most` meets its contract, by the letter.
+-- Assumes nothing.
+use mathlib.Core.Logic.{⊎-elim}
+use native.Mathlib.Omega.{arith}
+use borrow.Author.Tests.{ne-eqb}
+use Rattle.requests.specs.Fields.{most}
+use Rattle.requests.proofs.Letters.{one-of-two}
+use Rattle.requests.proofs.fields.most.Statement.{statement}
+use Rattle.requests.proofs.fields.most.Tie as tie
+
+returns : tie.Need-returns
+unfolding most
+returns c = rw (c .match .keys1)
+
+returns-2 : tie.Need-returns-2
+unfolding most
+returns-2 c = rw (c .match .keys2)
+
+returns-3 : tie.Need-returns-3
+unfolding most
+returns-3 c =
+    let l = c .before .before .before .args .letter in
+    ⊎-elim (λ e. rw e) (λ e. rw e) (one-of-two 0x45 l (omega arith) (omega arith))
+
+returns-4 : tie.Need-returns-4
+unfolding most
+returns-4 c =
+    let l = c .before .before .args .letter in
+    let r = c .before .match .rest in
+    rw (ne-eqb l 0x44 (r .0 .1), ne-eqb l 0x45 (omega arith), ne-eqb l 0x46 (omega arith), ne-eqb l 0x52 (r .1))
+
+returns-5 : tie.Need-returns-5
+unfolding most
+returns-5 c =
+    let m = c .before .before in
+    let l = m .before .args .letter in
+    let r = m .match .rest in
+    rw (ne-eqb l 0x44 (r .0 .1), ne-eqb l 0x45 (omega arith), ne-eqb l 0x46 (omega arith), ne-eqb l 0x52 (r .1))
+
+pub most-spec : {M : Type 1} → statement M
+most-spec = tie.close (tie.spec returns returns-2 returns-3 returns-4 returns-5)

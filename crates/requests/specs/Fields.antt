@@ -1,0 +1,77 @@
+-- The fields of a request, each read from a place of its line on.
+use Prim.Native.Nat.{ℕ, _+_, _-_, _*_, _^_}
+use mathlib.Core.Bool.{Bool, _&&_, _||_}
+use mathlib.Core.List.{List, _++_}
+use lib.Dec.{eqb, leb}
+use lib.ListN.{length, take, drop}
+use Rattle.answers.specs.Lent.{over}
+use Rattle.answers.specs.Table.{pick}
+use Rattle.layout.specs.Size.{maxRows, maxSlots}
+use Rattle.text.specs.declared.numeral.Numeral.{Numeral}
+use Rattle.text.specs.declared.numeral.Numeral.the-variants.{Read}
+use Rattle.text.specs.Numeral.{hexAt, decimalUpTo, endAt, literalAt}
+use Rattle.text.specs.Entries.{listAt, listedAt}
+use Rattle.text.specs.Strings.{stringAt, bytesAt}
+
+-- ---- how much a request may be lent
+abbrev pub bytesLent : ℕ
+bytesLent = 600000
+
+abbrev pub rowsLent : ℕ
+rowsLent = 4 * maxRows
+
+abbrev pub slotsLent : ℕ
+slotsLent = maxSlots + 1152
+
+-- ---- a number
+-- the most that it may be: `D`, `E`, `F` and `R` are rooms
+unfoldable pub most : ℕ → ℕ
+most letter =
+    pick (eqb letter 0x44) rowsLent
+    (pick (eqb letter 0x45 || eqb letter 0x46) slotsLent (pick (eqb letter 0x52) bytesLent (2 ^ 64 - 1)))
+
+-- `W` is a binary32, `X` a binary64, any other capital up to `V` in decimal; a dot is the line's end, a comma nothing
+unfoldable pub numberAt : ℕ → List ℕ → ℕ → Numeral
+numberAt letter line at =
+    pick (eqb letter 0x57) (hexAt line at 8)
+    (pick (eqb letter 0x58) (hexAt line at 16)
+    (pick (leb 0x41 letter && leb letter 0x56) (decimalUpTo (most letter) line at)
+    (pick (eqb letter 0x2e) (endAt line at)
+    (pick (eqb letter 0x2c) (Read 0 at) (literalAt letter line at)))))
+
+-- ---- a list: the deviations, `S`, go into the first words, the correlations, `C`, behind them
+abbrev pub forRows : List ℕ → List ℕ
+forRows words = take rowsLent words
+
+abbrev pub forSlots : List ℕ → List ℕ
+forSlots words = drop rowsLent words
+
+abbrev pub roomOf : ℕ → List ℕ → List ℕ
+roomOf letter words = pick (eqb letter 0x53) (forRows words) (forSlots words)
+
+unfoldable pub listOf : ℕ → List ℕ → ℕ → List ℕ → Numeral
+listOf letter line at words = listAt (length (roomOf letter words)) line at
+
+unfoldable pub wordsOf : ℕ → List ℕ → ℕ → List ℕ → List ℕ
+wordsOf letter line at words =
+    let stored : List ℕ = over (listedAt (length (roomOf letter words)) line at) (roomOf letter words) in
+    pick (eqb letter 0x53) (stored ++ forSlots words) (forRows words ++ stored)
+
+-- ---- a field: `H` is a byte string, `C` and `S` are lists
+abbrev pub isString : ℕ → Bool
+isString letter = eqb letter 0x48
+
+abbrev pub isList : ℕ → Bool
+isList letter = eqb letter 0x43 || eqb letter 0x53
+
+unfoldable pub fieldAt : ℕ → List ℕ → ℕ → List ℕ → Numeral
+fieldAt letter line at words =
+    pick (isString letter) (stringAt line at)
+    (pick (isList letter) (listOf letter line at words) (numberAt letter line at))
+
+-- what it leaves in the line, and in the words
+unfoldable pub lineAfter : ℕ → List ℕ → ℕ → List ℕ
+lineAfter letter line at = pick (isString letter) (over (bytesAt line at) line) line
+
+unfoldable pub wordsAfter : ℕ → List ℕ → ℕ → List ℕ → List ℕ
+wordsAfter letter line at words = pick (isList letter) (wordsOf letter line at words) words

@@ -1,0 +1,10 @@
+//! How much a request may give, and how much it may be lent.
+use layout::pack::SdccFlp;
+
+// No request is lent more.
+pub const BYTES: usize = 600_000;
+
+// A request can be lent more than the largest pack has, so that what stands past it shows.
+pub const ROWS: usize = 4 * SdccFlp::MAX_ROWS as usize;
+
+pub const SLOTS: usize = SdccFlp::MAX_SLOTS as usize + 1152;
