@@ -1,4 +1,5 @@
-//! Text in lent memory: numbers and words put from a place on, numbers read from a line, and marks that show a change.
+//! Text in lent memory: numbers and words put from a place on, numbers and byte strings read from a line, and marks
+//! that show a change.
 pub mod list;
 pub mod marks;
 pub mod numeral;
