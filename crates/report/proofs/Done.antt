@@ -32,7 +32,8 @@ use Rattle.rules.specs.Rules.{elementRules, roomRules}
 use Rattle.reader.specs.declared.read.ReadAnswer.{ReadAnswer}
 use Rattle.reader.specs.declared.read.ReadAnswer.the-variants.{Done, Refused}
 use Rattle.reader.proofs.Whole.{Meets}
-use Rattle.report.specs.Lines.{refusedLine, Held, heldLines}
+use Rattle.lines.specs.Lines.{refusedLine}
+use Rattle.report.specs.Lines.{Held, heldLines}
 use Rattle.report.specs.Printed.{maxBytes, maxRows, maxSlots, room, isLarge, isTooBig, answerLines, readLines, printed, printAnswer}
 use Rattle.report.proofs.Fits.{most-slots, pack-fits, few-read, refused-fits}
 

@@ -16,7 +16,8 @@ use Rattle.layout.specs.Triangle.{slotsOf, slotOf}
 use Rattle.layout.proofs.RowByRow.{row-next, row-within, slots-mono}
 use Rattle.reader.specs.Rules.{readAnswer}
 use Rattle.rules.specs.Rules.{inTurn}
-use Rattle.report.specs.Lines.{numbers, refusedLine, nLine, sLine, cLine, deviationLines, rowLines, slotLines, packLines}
+use Rattle.lines.specs.Lines.{numbers, refusedLine, nLine, sLine, cLine, deviationLines}
+use Rattle.report.specs.Lines.{rowLines, slotLines, packLines}
 use Rattle.report.specs.Printed.{maxRows, maxSlots, room}
 use Rattle.text.specs.Text.{decimal, named, space}
 use Rattle.text.proofs.Figures.{length-decimal, longest-decimal, length-hex}

@@ -1,4 +1,3 @@
-pub mod Numbers
 pub mod Slots
 pub mod Fits
 pub mod Done

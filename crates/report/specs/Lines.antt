@@ -1,46 +1,19 @@
--- The lines that the program prints. Every line ends with a newline.
+-- The lines of a pack that was read, each as `lines` has it. Every line ends with a newline.
 use Prim.Native.Nat.{ℕ, _+_, _-_, _≤_}
 use mathlib.Core.Path.{_≡_}
-use mathlib.Core.List.{List, [], _∷_, _++_}
+use mathlib.Core.List.{List, _++_}
 use lib.ListN.{length, take, getD}
-use Rattle.answers.specs.Table.{Answer, plains}
 use Rattle.answers.specs.Lent.{joined}
 use Rattle.layout.specs.Triangle.{slotsOf, slotOf}
 use Rattle.layout.specs.declared.pack.SdccFlp.{SdccFlp}
-use Rattle.text.specs.Text.{ascii, space, newline, named, spacedBits}
+use Rattle.text.specs.Text.{ascii}
+use Rattle.lines.specs.Lines.{nLine, cLine, deviationLines}
 
 -- more than this program reads
 abbrev pub tooBigLine : List ℕ
 tooBigLine = ascii "too big for this program\n"
 
--- ---- a refusal: its number, then its numbers in decimal, one space between
-abbrev pub numbers : List ℕ → List ℕ
-numbers [] = []
-numbers (n ∷ ns) = named space n ++ numbers ns
-
-abbrev pub refusedLine : Answer → List ℕ
-refusedLine a = named (ascii "refused ") (a .number) ++ numbers (plains (a .carries)) ++ newline
-
 -- ---- a pack that was read
--- N, the deviation count and M
-abbrev pub nLine : ℕ → ℕ → ℕ → List ℕ
-nLine n d m = named (ascii "n ") n ++ named (ascii " deviations ") d ++ named (ascii " slots ") m ++ newline
-
--- a name, its numbers, and the bits of a binary64
-abbrev pub bitsLine : List ℕ → List ℕ → ℕ → List ℕ
-bitsLine name values bits = name ++ numbers values ++ spacedBits bits ++ newline
-
--- row, bits
-abbrev pub sLine : ℕ → ℕ → List ℕ
-sLine i bits = bitsLine (ascii "s") (i ∷ []) bits
-
--- i, j, presence, bits
-abbrev pub cLine : ℕ → ℕ → ℕ → ℕ → List ℕ
-cLine i j present bits = bitsLine (ascii "c") (i ∷ j ∷ present ∷ []) bits
-
-abbrev pub deviationLines : List ℕ → List ℕ
-deviationLines ds = joined (length ds) (λ i. sLine i (getD ds i 0))
-
 -- the slots row by row: of row i those of j from i+1 to N-1
 module _ (n : ℕ) (cs ps : List ℕ) where
   abbrev pub slotLine : ℕ → ℕ → List ℕ

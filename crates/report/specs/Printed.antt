@@ -11,7 +11,8 @@ use Rattle.layout.specs.Listed.{peeked}
 use Rattle.layout.specs.Size.{matrixSize}
 use Rattle.elements.specs.Elements.{headOf, deviations, correlations, presence}
 use Rattle.reader.specs.Rules.{readAnswer}
-use Rattle.report.specs.Lines.{tooBigLine, refusedLine, packLines}
+use Rattle.lines.specs.Lines.{refusedLine}
+use Rattle.report.specs.Lines.{tooBigLine, packLines}
 
 -- the most that is read: so many bytes, and so many rows, which have so many slots
 abbrev pub maxBytes : ℕ

@@ -1,5 +1,3 @@
 //! Which bytes the program prints for which input.
-mod lines;
+mod pack;
 pub mod print;
-mod refusal;
-mod values;

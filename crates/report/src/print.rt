@@ -1,10 +1,10 @@
 //! What the program prints.
-use crate::lines::put_pack;
-use crate::refusal::put_refusal;
+use crate::pack::put_pack;
 use answers::Refusal;
 use answers::Written;
 use layout::size::Peek;
 use layout::size::peek_matrix_size;
+use lines::refusal::put_refusal;
 use reader::read::ReadAnswer;
 use reader::read::decode_sdcc_flp;
 use text::put::put_text;
@@ -69,7 +69,7 @@ fn put_read(bytes: &[u8], out: &mut [u8]) -> usize
     let read = decode_sdcc_flp(bytes, &mut deviations, &mut correlations, &mut presence);
     match read {
         ReadAnswer::Done(pack) => put_pack(pack, &deviations, &correlations, &presence, out),
-        ReadAnswer::Refused(refusal) => put_refusal(refusal, out),
+        ReadAnswer::Refused(refusal) => put_refusal(refusal, 0, out),
     }
 }
 

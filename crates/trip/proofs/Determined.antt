@@ -84,6 +84,12 @@ use Rattle.writer.proofs.write.encode_sdcc_flp.Reads as encode-sdcc-flp
 use Rattle.matrix.proofs.OneAnswer.{correlation-one, usable-one}
 use Rattle.matrix.proofs.lookup.correlation.Reads as correlation
 use Rattle.matrix.proofs.usable.usable.Reads as usable
+use Rattle.lines.proofs.OneAnswer.{put-values-one, put-refusal-one, put-counts-one, put-line-one, put-rows-one}
+use Rattle.lines.proofs.values.put_values.Reads as put-values
+use Rattle.lines.proofs.refusal.put_refusal.Reads as put-refusal
+use Rattle.lines.proofs.line.put_counts.Reads as put-counts
+use Rattle.lines.proofs.line.put_line.Reads as put-line
+use Rattle.lines.proofs.line.put_rows.Reads as put-rows
 use Rattle.report.proofs.OneAnswer.{print-pack-one}
 use Rattle.report.proofs.print.print_pack.Reads as print-pack
 use Rattle.replies.proofs.OneAnswer.{letter-one, is-field-one, one-one, words-one, refused-one, special-of-one, special-one, of-mapped-one, widen-one, narrow-one, of-oid-one, of-written-one, of-peek-one, of-read-one, of-cell-one, of-usable-one, put-reply-one}
@@ -194,6 +200,11 @@ pub record Determined : Type 0 where
   pub correlation-determined : OneResult correlation.Learnt
   pub usable-determined : OneResult usable.Learnt
   -- what the program prints
+  pub put-values-determined : OneAnswer put-values.Learnt (λ κs s. now (s .1 .1 .1 .0))
+  pub put-refusal-determined : OneAnswer put-refusal.Learnt (λ κs s. now (s .1 .1 .0))
+  pub put-counts-determined : OneAnswer put-counts.Learnt (λ κs s. now (s .1 .1 .1 .1 .0))
+  pub put-line-determined : OneAnswer put-line.Learnt (λ κs s. now (s .1 .1 .1 .1 .1 .0))
+  pub put-rows-determined : OneAnswer put-rows.Learnt (λ κs s. now (s .1 .1 .0))
   pub print-pack-determined : OneAnswer print-pack.Learnt (λ κs s. now (s .1 .0))
   -- what replay is asked, and what it answers
   pub read-request-determined : OneAnswer {L = List ℕ × List ℕ} read-request.Learnt (λ κs s. (now (s .0), now (s .1 .0)))
@@ -292,6 +303,11 @@ determined =
       encode-sdcc-flp-determined = encode-sdcc-flp-one;
       correlation-determined = correlation-one;
       usable-determined = usable-one;
+      put-values-determined = put-values-one;
+      put-refusal-determined = put-refusal-one;
+      put-counts-determined = put-counts-one;
+      put-line-determined = put-line-one;
+      put-rows-determined = put-rows-one;
       print-pack-determined = print-pack-one;
       read-request-determined = read-request-one;
       letter-determined = letter-one;

@@ -1,4 +1,4 @@
--- `lines::put_row` meets its contract: each turn puts the next slot's line behind those before it.
+-- `pack::put_row` meets its contract: each turn puts the next slot's line behind those before it.
 -- Assumes nothing.
 use mathlib.Core.Path.{_≡_, refl}
 use Prim.Native.Nat.{_+_, _-_, _<_}
@@ -9,8 +9,8 @@ use Rattle.layout.specs.Triangle.{slotsOf}
 use Rattle.text.proofs.Pieces.{Puts, puts-none, puts-more, puts-done, put-long}
 use Rattle.report.specs.Lines.{slotLine}
 use Rattle.report.proofs.Slots.{Along, along-none, none-passed, along-more, one-more, the-next, passed-below, slot-at, slot-below}
-use Rattle.report.proofs.lines.put_row.Statement.{statement}
-use Rattle.report.proofs.lines.put_row.Tie as tie
+use Rattle.report.proofs.pack.put_row.Statement.{statement}
+use Rattle.report.proofs.pack.put_row.Tie as tie
 
 abbrev Inv-loop : tie.InvT-loop
 Inv-loop i rows first correlations presence at out₀ next₀ slot₀ j₀ out next slot j =
@@ -59,7 +59,7 @@ put-row-spec =
     (λ c. omega (arith, c .shared-slice-known3 .given (c .before .before .loop .slot)))
     (λ c. omega (arith, below (c .before)))
     (λ c. omega (arith, below (c .before .before)))
-    (λ c κs. search needs)
+    (λ c κs. tt)
     (λ c. omega (arith, below (c .before .before .before .before .before .before)))
     (λ c. search needs)
     (λ c. search needs)

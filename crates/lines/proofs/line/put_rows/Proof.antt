@@ -1,4 +1,4 @@
--- `lines::put_deviations` meets its contract: each turn puts the next line behind those before it.
+-- `line::put_rows` meets its contract: each turn puts the next line behind those before it.
 -- Assumes nothing.
 use mathlib.Core.Path.{refl}
 use Prim.Native.Nat.{_-_}
@@ -6,9 +6,9 @@ use borrow.Author.Needs.{needs}
 use lib.ListN.{length, getD}
 use Rattle.answers.specs.Lent.{joined}
 use Rattle.text.proofs.Pieces.{Puts, puts-none, puts-more, puts-done, put-long}
-use Rattle.report.specs.Lines.{sLine}
-use Rattle.report.proofs.lines.put_deviations.Statement.{statement}
-use Rattle.report.proofs.lines.put_deviations.Tie as tie
+use Rattle.lines.specs.Lines.{sLine}
+use Rattle.lines.proofs.line.put_rows.Statement.{statement}
+use Rattle.lines.proofs.line.put_rows.Tie as tie
 
 abbrev Inv-loop : tie.InvT-loop
 Inv-loop deviations at out₀ next₀ i₀ out next i =
@@ -32,8 +32,8 @@ same-length c = put-long (c .before .loop .inv .is)
 returns : tie.Need-returns Inv-loop μ-loop
 returns c = puts-done (c .before .loop .inv) (c .loop-test .left)
 
-pub put-deviations-spec : {M : Type 1} → statement M
-put-deviations-spec =
+pub put-rows-spec : {M : Type 1} → statement M
+put-rows-spec =
     tie.close
     (tie.spec
     Inv-loop
@@ -42,7 +42,7 @@ put-deviations-spec =
     loop-holds
     (λ c. search needs)
     (λ c. search needs)
-    (λ c κs. search needs)
+    (λ c κs. tt)
     (λ c. search needs)
     (λ c. search needs)
     loop-again

@@ -6,15 +6,15 @@ use text::put::put_byte;
 use text::put::put_named;
 ghost use Rattle.answers.specs.Listed.{listed};
 ghost use Rattle.text.specs.Put.{Put};
-ghost use Rattle.report.specs.Lines.{refusedLine};
+ghost use Rattle.lines.specs.Lines.{refusedLine};
 
 // Document 01's number and values.
-pub(crate) fn put_refusal(refusal: Refusal, out: &mut [u8]) -> usize
-    ensures { λ r. ⌜ Put (refusedLine (listed refusal)) 0 (now (out .entry)) r (now (out .exit)) ⌝ }
+pub fn put_refusal(refusal: Refusal, at: usize, out: &mut [u8]) -> usize
+    ensures { λ r. ⌜ Put (refusedLine (listed refusal)) at (now (out .entry)) r (now (out .exit)) ⌝ }
 {
     let row = row_of(refusal);
     let values = row.values;
-    let numbered = put_named(b"refused ", row.number, 0, out);
+    let numbered = put_named(b"refused ", row.number, at, out);
     let valued = put_values(row.count, values, numbered, out);
     put_byte(b'\n', valued, out)
 }

@@ -3,14 +3,9 @@
 use mathlib.Core.Path.{refl}
 use borrow.Author.Needs.{needs}
 use Rattle.text.proofs.Pieces.{put-then}
-use Rattle.report.proofs.Numbers.{row-count, row-values}
-use Rattle.report.proofs.refusal.put_refusal.Statement.{statement}
-use Rattle.report.proofs.refusal.put_refusal.Tie as tie
-
-put-values-requires : tie.Need-put-values-requires
-put-values-requires c κs =
-    let s = c .before .before .before .before .before .before .before in
-    rw (s .row-of .ensures) (row-count (s .before .before .args .refusal))
+use Rattle.lines.proofs.Numbers.{row-values}
+use Rattle.lines.proofs.refusal.put_refusal.Statement.{statement}
+use Rattle.lines.proofs.refusal.put_refusal.Tie as tie
 
 returns : tie.Need-returns
 returns c =
@@ -29,7 +24,7 @@ put-refusal-spec =
     (λ c κs. tt)
     (λ c. refl)
     (λ c κs. tt)
-    put-values-requires
+    (λ c κs. tt)
     (λ c κs. tt)
     (λ c. search needs)
     returns)

@@ -3,18 +3,12 @@
 use mathlib.Core.Path.{_≡_, refl, sym, ap, _∙_}
 use mathlib.Core.Bool.{Bool, true, false}
 use mathlib.Core.List.{List, [], _∷_}
-use Prim.Native.Nat.{ℕ, _≤_}
-use borrow.Author.Tests.{leb-true}
-use lib.Dec.{leb}
+use Prim.Native.Nat.{ℕ}
 use Rattle.answers.specs.declared.Refusal.{Refusal}
 use Rattle.answers.specs.Listed.{listed}
 use Rattle.answers.specs.Row.{rowOf, floats64, valuesOf}
 use Rattle.answers.specs.Table.{Answer, wholes, pick, plains}
-use Rattle.answers.proofs.OneToOne.{of-each}
 use Rattle.answers.proofs.Rows.{row-lists}
-
-pub row-count : (r : Refusal) → rowOf r .count ≤ 3
-row-count r = leb-true (rowOf r .count) 3 (of-each (λ r. leb (rowOf r .count) 3) (λ r. true) (search) r)
 
 -- entries of either kind as plain numbers
 plain-wholes : (ns : List ℕ) → plains (wholes ns) ≡ ns

@@ -1,58 +1,15 @@
 //! The lines of a pack that was read: n, then an s for each deviation, then a c for each slot.
-use crate::values::put_values;
 use layout::pack::SdccFlp;
+use lines::line::put_counts;
+use lines::line::put_line;
+use lines::line::put_rows;
 use text::part::within;
-use text::put::put_bits;
-use text::put::put_byte;
-use text::put::put_named;
 ghost use mathlib.Core.Path.{_≡_};
-ghost use mathlib.Core.List.{[], _∷_};
 ghost use Prim.Native.Nat.{_+_, _≤_, _<_};
-ghost use lib.ListN.{length, take};
+ghost use lib.ListN.{length};
 ghost use Rattle.layout.specs.Triangle.{slotsOf, slotOf};
 ghost use Rattle.text.specs.Put.{Put};
-ghost use Rattle.report.specs.Lines.{nLine, bitsLine, deviationLines, rowLines, slotLines};
-ghost use Rattle.report.specs.Lines.{Held, heldLines};
-
-// N, the deviation count and M.
-fn put_counts(rows: usize, deviations: usize, slots: usize, at: usize, out: &mut [u8]) -> usize
-    ensures { λ r. ⌜ Put (nLine rows deviations slots) at (now (out .entry)) r (now (out .exit)) ⌝ }
-{
-    let sized = put_named(b"n ", rows as u64, at, out);
-    let rowed = put_named(b" deviations ", deviations as u64, sized, out);
-    let counted = put_named(b" slots ", slots as u64, rowed, out);
-    put_byte(b'\n', counted, out)
-}
-
-// A letter, the first `count` of the values, and the bits of a binary64.
-fn put_line(
-    letter: u8,
-    count: usize,
-    values: [u64; 3],
-    bits: u64,
-    at: usize,
-    out: &mut [u8],
-) -> usize
-    requires { ⌜ count ≤ 3 ⌝ }
-    ensures { λ r. ⌜ Put (bitsLine (letter ∷ []) (take count values) bits) at (now (out .entry)) r (now (out .exit)) ⌝ }
-{
-    let named = put_byte(letter, at, out);
-    let valued = put_values(count, values, named, out);
-    let marked = put_bits(bits, valued, out);
-    put_byte(b'\n', marked, out)
-}
-
-fn put_deviations(deviations: &[u64], at: usize, out: &mut [u8]) -> usize
-    ensures { λ r. ⌜ Put (deviationLines (now (deviations .entry))) at (now (out .entry)) r (now (out .exit)) ⌝ }
-{
-    let mut next = within(at, out);
-    let mut i: usize = 0;
-    while i < deviations.len() {
-        next = put_line(b's', 1, [i as u64, 0, 0], deviations[i], next, out);
-        i += 1;
-    }
-    next
-}
+ghost use Rattle.report.specs.Lines.{rowLines, slotLines, Held, heldLines};
 
 // The slots of row i, whose first is `first`.
 fn put_row(
@@ -113,6 +70,6 @@ pub(crate) fn put_pack(
     let rows = pack.matrix_size as usize;
     let count = pack.deviations;
     let counted = put_counts(rows, count, pack.slots, 0, out);
-    let rowed = put_deviations(&deviations[..count], counted, out);
+    let rowed = put_rows(&deviations[..count], counted, out);
     put_slots(rows, correlations, presence, rowed, out)
 }

@@ -1,9 +1,9 @@
--- `lines::put_line` meets its contract: one piece behind the other.
+-- `line::put_line` meets its contract: one piece behind the other.
 -- Assumes nothing.
 use borrow.Author.Needs.{needs}
 use Rattle.text.proofs.Pieces.{put-then}
-use Rattle.report.proofs.lines.put_line.Statement.{statement}
-use Rattle.report.proofs.lines.put_line.Tie as tie
+use Rattle.lines.proofs.line.put_line.Statement.{statement}
+use Rattle.lines.proofs.line.put_line.Tie as tie
 
 returns : tie.Need-returns
 returns c =
@@ -18,7 +18,7 @@ put-line-spec =
     tie.close
     (tie.spec
     (λ c κs. tt)
-    (λ c κs. search needs)
+    (λ c κs. tt)
     (λ c κs. tt)
     (λ c κs. tt)
     (λ c. search needs)

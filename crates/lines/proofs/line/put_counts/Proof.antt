@@ -1,10 +1,10 @@
--- `lines::put_counts` meets its contract: one piece behind the other.
+-- `line::put_counts` meets its contract: one piece behind the other.
 -- Assumes nothing.
 use mathlib.Core.Path.{refl}
 use borrow.Author.Needs.{needs}
 use Rattle.text.proofs.Pieces.{put-then}
-use Rattle.report.proofs.lines.put_counts.Statement.{statement}
-use Rattle.report.proofs.lines.put_counts.Tie as tie
+use Rattle.lines.proofs.line.put_counts.Statement.{statement}
+use Rattle.lines.proofs.line.put_counts.Tie as tie
 
 returns : tie.Need-returns
 returns c =

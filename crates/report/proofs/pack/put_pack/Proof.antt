@@ -1,4 +1,4 @@
--- `lines::put_pack` meets its contract: one piece behind the other.
+-- `pack::put_pack` meets its contract: one piece behind the other.
 -- Assumes nothing.
 use mathlib.Core.Path.{sym}
 use native.Mathlib.Omega.{arith}
@@ -6,11 +6,11 @@ use borrow.Author.Needs.{needs}
 use lib.Seq.{length-take-le}
 use Rattle.text.proofs.Pieces.{put-then}
 use Rattle.report.proofs.Slots.{slots-front}
-use Rattle.report.proofs.lines.put_pack.Statement.{statement}
-use Rattle.report.proofs.lines.put_pack.Tie as tie
+use Rattle.report.proofs.pack.put_pack.Statement.{statement}
+use Rattle.report.proofs.pack.put_pack.Tie as tie
 
-slice-aggregate-put-deviations : tie.Need-slice-aggregate-put-deviations
-slice-aggregate-put-deviations c =
+slice-aggregate-put-rows : tie.Need-slice-aggregate-put-rows
+slice-aggregate-put-rows c =
     let s = c .before .before .before .before .before .before .before .before .before in
     sym (length-take-le (s .args .pack .deviations) (s .args .deviations .now) (s .pre .1))
 
@@ -29,14 +29,14 @@ returns c =
     let d = length-take-le (p .deviations) (s .args .deviations .now) (s .pre .1) in
     let m = length-take-le (p .slots) (s .args .correlations .now) (s .pre .2) in
     rw (m, slots-front (p .«matrix_size») (p .slots) (s .args .correlations .now) (s .args .presence .now) (omega (arith, s .pre .0)))
-    (put-then (put-then (rw (← d) at (u .put-counts .ensures)) (v .put-deviations .ensures)) (w .put-slots .ensures))
+    (put-then (put-then (rw (← d) at (u .put-counts .ensures)) (v .put-rows .ensures)) (w .put-slots .ensures))
 
 pub put-pack-spec : {M : Type 1} → statement M
 put-pack-spec =
     tie.close
     (tie.spec
     (λ c κs. tt)
-    slice-aggregate-put-deviations
+    slice-aggregate-put-rows
     (λ c κs. tt)
     put-slots-requires
     (λ c. search needs)

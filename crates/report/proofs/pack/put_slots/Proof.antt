@@ -1,4 +1,4 @@
--- `lines::put_slots` meets its contract: each turn puts the next row's lines behind those before it.
+-- `pack::put_slots` meets its contract: each turn puts the next row's lines behind those before it.
 -- Assumes nothing.
 use mathlib.Core.Path.{_≡_, refl, sym, ap, _∙_}
 use Prim.Native.Nat.{ℕ, _+_, _-_}
@@ -9,8 +9,8 @@ use Rattle.layout.specs.Triangle.{slotOf}
 use Rattle.layout.proofs.RowByRow.{row-first, row-next, row-within}
 use Rattle.text.proofs.Pieces.{Puts, puts-none, puts-more, puts-done, put-long}
 use Rattle.report.specs.Lines.{rowLines}
-use Rattle.report.proofs.lines.put_slots.Statement.{statement}
-use Rattle.report.proofs.lines.put_slots.Tie as tie
+use Rattle.report.proofs.pack.put_slots.Statement.{statement}
+use Rattle.report.proofs.pack.put_slots.Tie as tie
 
 abbrev Inv-loop : tie.InvT-loop
 Inv-loop rows correlations presence at out₀ next₀ first₀ i₀ out next first i =

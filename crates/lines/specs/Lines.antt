@@ -1,0 +1,35 @@
+-- The lines that the program prints. Every line ends with a newline.
+use Prim.Native.Nat.{ℕ}
+use mathlib.Core.List.{List, [], _∷_, _++_}
+use lib.ListN.{length, getD}
+use Rattle.answers.specs.Table.{Answer, plains}
+use Rattle.answers.specs.Lent.{joined}
+use Rattle.text.specs.Text.{ascii, space, newline, named, spacedBits}
+
+-- ---- a refusal: its number, then its numbers in decimal, one space between
+abbrev pub numbers : List ℕ → List ℕ
+numbers [] = []
+numbers (n ∷ ns) = named space n ++ numbers ns
+
+abbrev pub refusedLine : Answer → List ℕ
+refusedLine a = named (ascii "refused ") (a .number) ++ numbers (plains (a .carries)) ++ newline
+
+-- ---- a pack that was read
+-- N, the deviation count and M
+abbrev pub nLine : ℕ → ℕ → ℕ → List ℕ
+nLine n d m = named (ascii "n ") n ++ named (ascii " deviations ") d ++ named (ascii " slots ") m ++ newline
+
+-- a name, its numbers, and the bits of a binary64
+abbrev pub bitsLine : List ℕ → List ℕ → ℕ → List ℕ
+bitsLine name values bits = name ++ numbers values ++ spacedBits bits ++ newline
+
+-- row, bits
+abbrev pub sLine : ℕ → ℕ → List ℕ
+sLine i bits = bitsLine (ascii "s") (i ∷ []) bits
+
+-- i, j, presence, bits
+abbrev pub cLine : ℕ → ℕ → ℕ → ℕ → List ℕ
+cLine i j present bits = bitsLine (ascii "c") (i ∷ j ∷ present ∷ []) bits
+
+abbrev pub deviationLines : List ℕ → List ℕ
+deviationLines ds = joined (length ds) (λ i. sLine i (getD ds i 0))
