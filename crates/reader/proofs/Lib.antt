@@ -1,4 +1,5 @@
 pub mod CodesRead
+pub mod Counts
 pub mod Filled
 pub mod Marked
 pub mod OneAnswer

@@ -10,7 +10,7 @@ use native.Mathlib.Omega.{arith}
 use borrow.Author.Tests.{leb-true, eq-eqb, ne-eqb}
 use lib.Dec.{leb, eqb}
 use lib.ListN.{length, getD, set}
-use lib.Seq.{sets, length-sets, set-set}
+use lib.Seq.{sets, length-sets}
 use Rattle.answers.specs.Lent.{over, tab}
 use Rattle.answers.specs.Table.{pick}
 use Rattle.answers.proofs.Lent.{length-tab, tab-same, Front}
@@ -24,7 +24,7 @@ use Rattle.layout.specs.declared.control.ParseControl.{ParseControl}
 use Rattle.layout.specs.Control.{isSet}
 use Rattle.elements.specs.Elements.{part, valueBits, vectorBit, onesBefore, correlationIn, presenceIn}
 use Rattle.elements.specs.Held.{SlotsHeld}
-use Rattle.reader.specs.Fill.{Maps, Codes, mappedIn, markIn, markedIn}
+use Rattle.reader.specs.Fill.{Maps, Codes, mappedIn, markIn, markedIn, oneByte}
 use Rattle.reader.proofs.Filled.{ends}
 use Rattle.answers.proofs.Tab.{tab-none, tab-run, tab-done}
 use Rattle.elements.proofs.Vector.{ones-grow}
@@ -44,10 +44,6 @@ bit-alone byte j h =
     let place : j / 8 ≡ 0 = omega arith in
     let bit : j % 8 ≡ j = omega arith in
     rw (place, bit)
-
--- byte i of a vector, alone
-abbrev pub oneByte : List ℕ → ℕ → ℕ → List ℕ
-oneByte v at i = getD v (at + i) 0 ∷ []
 
 bit-of : (v : List ℕ) (at i j : ℕ) → j < 8 → vectorBit v at (8 * i + j) ≡ vectorBit (oneByte v at i) 0 j
 bit-of v at i j h =
@@ -89,12 +85,12 @@ module _ {byte : ℕ} {bytes : List ℕ} {at : ℕ} {m : Mapping} {from count : 
             code-there k n (g .on)
 
         pub group-set : {r : ℕ} → r ≡ valueBits (reading (m .length) (wordOf (part bytes next (m .length))))
-            → Group byte bytes at m from count c₀ p₀ (j + 1) (set (set c (from + j) 0) (from + j) r) (set (set p (from + j) 0) (from + j) 1) (next + m .length)
+            → Group byte bytes at m from count c₀ p₀ (j + 1) (set c (from + j) r) (set p (from + j) 1) (next + m .length)
         group-set e =
             record {
               within = omega arith;
-              numbers = rw (set-set, ← (sets-tab c₀ from j (markedIn (byte ∷ []) 0 bytes at (m .length))), marked, g .numbers, e, g .on);
-              marks = rw (set-set, ← (sets-tab p₀ from j (markIn (byte ∷ []) 0)), marked, g .marks);
+              numbers = rw (← (sets-tab c₀ from j (markedIn (byte ∷ []) 0 bytes at (m .length))), marked, g .numbers, e, g .on);
+              marks = rw (← (sets-tab p₀ from j (markIn (byte ∷ []) 0)), marked, g .marks);
               on = rw (add-one, marked) (code-next at (m .length) (onesBefore (byte ∷ []) 0 j) (g .on));
             }
 

@@ -1,10 +1,11 @@
 -- The reader's whole order: what each refusal comes to, and what is left in lent memory.
 -- Assumes nothing.
 use mathlib.Core.Path.{_≡_, refl, sym, ap, _∙_}
+use mathlib.Core.Bool.{true}
 use mathlib.Core.List.{List}
-use Prim.Native.Nat.{ℕ}
+use Prim.Native.Nat.{ℕ, _+_, _*_, _/_, _≤_, _<_}
 use lib.ListN.{length}
-use Rattle.answers.specs.Lent.{over, leaves}
+use Rattle.answers.specs.Lent.{over, tab, leaves}
 use Rattle.answers.specs.Listed.{listed}
 use Rattle.answers.specs.Outcome.{found, refused}
 use Rattle.answers.specs.Table.{Answer, passes, next}
@@ -13,15 +14,19 @@ use Rattle.answers.proofs.Next.{next-next, next-passed, next-zero}
 use Rattle.answers.proofs.OneToOne.{refused-not-done}
 use Rattle.answers.proofs.Outcome.{found-tells, refused-tells}
 use Rattle.layout.specs.Size.{fitRules}
+use Rattle.layout.specs.Triangle.{slotsOf}
 use Rattle.elements.specs.declared.head.Head.{Head}
 use Rattle.elements.specs.declared.head.Places.{Places}
-use Rattle.elements.specs.Elements.{headOf, placesOf, deviations, correlations, presence}
-use Rattle.elements.specs.Held.{Placed}
-use Rattle.elements.specs.Listed.{verdict}
+use Rattle.elements.specs.Elements.{headOf, placesOf, deviationsAt, deviationCount, codesAt}
+use Rattle.elements.specs.Elements.{deviationIn, correlationIn, presenceIn, deviations, correlations, presence}
+use Rattle.elements.specs.Formats.{deviationFormat}
+use Rattle.elements.specs.Held.{Within, Placed, SlotsHeld}
+use Rattle.elements.specs.Listed.{packOf, verdict}
 use Rattle.elements.proofs.Opened.{fit-within}
 use Rattle.rules.specs.Rules.{elementRules, packRules, roomRules}
+use Rattle.rules.proofs.Held.{Held, held, Rooms, rooms as rooms-tell}
 use Rattle.reader.specs.declared.read.ReadAnswer.{ReadAnswer}
-use Rattle.reader.specs.declared.read.ReadAnswer.the-variants.{Refused}
+use Rattle.reader.specs.declared.read.ReadAnswer.the-variants.{Done, Refused}
 use Rattle.reader.specs.Listed.{readListed}
 use Rattle.reader.specs.Rules.{done, readAnswer}
 
@@ -70,6 +75,37 @@ module _ (bytes : List ℕ) (ds cs ps : ℕ) where
     pub all-pass : roomRules (p .head) ds cs ps ≡ passes → done (headOf bytes) ≡ readAnswer bytes ds cs ps
     all-pass e = sym (from-rooms passes e)
 
+-- ---- what a pack that passes them all holds, at the places that were found
+vector-there : {bytes : List ℕ} {h : Head} → Within bytes h → h .control .cs ≡ true → h .body + (slotsOf (h .n) + 7) / 8 ≤ length bytes
+vector-there w e = rw e at (w .vector)
+
+module _ (bytes ds cs ps : List ℕ) {p : Places} (o : found p ≡ verdict bytes (packRules bytes)) (e : roomRules (p .head) (length ds) (length cs) (length ps) ≡ passes) where
+  place : Placed bytes p
+  place = placed bytes (length ds) (length cs) (length ps) o
+
+  deviations-at : p .deviations ≡ deviationsAt (p .head)
+  deviations-at = ap (λ (x : Places). x .deviations) (place .is)
+
+  codes-at : p .codes ≡ codesAt (p .head)
+  codes-at = ap (λ (x : Places). x .codes) (place .is)
+
+  all-held : Held bytes (p .head)
+  all-held = held bytes (p .head) (place .within) (elements-pass bytes (length ds) (length cs) (length ps) o)
+
+  has-room : Rooms (p .head) (length ds) (length cs) (length ps)
+  has-room = rooms-tell (p .head) (length ds) (length cs) (length ps) e
+
+  pub deviations-there : (p .deviations + deviationCount (p .head) * p .head .control .slen ≤ length bytes)
+      × (0 < deviationCount (p .head) → deviationFormat (p .head .control) ≡ passes)
+      × (deviationCount (p .head) ≤ length ds)
+  deviations-there = rw deviations-at (all-held .deviations, all-held .format, has-room .deviations)
+
+  pub slots-there : SlotsHeld bytes (p .head .body) (p .codes) (p .head .control) (slotsOf (p .head .n))
+      × (p .head .control .cs ≡ true → p .head .body + (slotsOf (p .head .n) + 7) / 8 ≤ length bytes)
+      × (slotsOf (p .head .n) ≤ length cs)
+      × (slotsOf (p .head .n) ≤ length ps)
+  slots-there = rw codes-at (all-held .slots, vector-there (place .within), has-room .correlations, has-room .presence)
+
 -- ---- what the reader's contract says of lent memory
 module _ (x : ReadAnswer) (bytes ds cs ps : List ℕ) where
   abbrev pub Meets : List ℕ → List ℕ → List ℕ → Type 0
@@ -83,8 +119,15 @@ module _ (x : ReadAnswer) (bytes ds cs ps : List ℕ) where
   pub kept : (r : Refusal) → x ≡ Refused r → listed r ≡ readAnswer bytes (length ds) (length cs) (length ps) → Meets ds cs ps
   kept r e a = rw e (a, rw (refused-not-done r), rw (refused-not-done r), rw (refused-not-done r))
 
-  -- and done: the numbers, over what was there
-  pub stored : {h : Head} → h ≡ headOf bytes → {ds′ cs′ ps′ : List ℕ} → done (headOf bytes) ≡ readAnswer bytes (length ds) (length cs) (length ps)
-      → (readListed x ≡ done h) × (ds′ ≡ over (deviations bytes h) ds) × (cs′ ≡ over (correlations bytes h) cs) × (ps′ ≡ over (presence bytes h) ps)
-      → Meets ds′ cs′ ps′
-  stored e a p = let q = rw e at p in rw (q .0) (a, q .1, q .2, q .3)
+-- and done: the numbers, over what was there
+module _ (bytes ds cs ps : List ℕ) {p : Places} (o : found p ≡ verdict bytes (packRules bytes)) (e : roomRules (p .head) (length ds) (length cs) (length ps) ≡ passes) where
+  pub stored : {ds′ cs′ ps′ : List ℕ}
+      → ds′ ≡ over (tab (deviationCount (p .head)) (deviationIn bytes (p .deviations) (p .head .control))) ds
+      → cs′ ≡ over (tab (slotsOf (p .head .n)) (correlationIn bytes (p .head .body) (p .codes) (p .head .control))) cs
+      → ps′ ≡ over (tab (slotsOf (p .head .n)) (presenceIn bytes (p .head .body) (p .head .control))) ps
+      → Meets (Done (packOf (p .head))) bytes ds cs ps ds′ cs′ ps′
+  stored a b c =
+      let h = head-is bytes (length ds) (length cs) (length ps) o in
+      let x = rw (deviations-at bytes ds cs ps o e, h) at a in
+      let y = rw (codes-at bytes ds cs ps o e, h) at b in
+      (rw h (all-pass bytes (length ds) (length cs) (length ps) o e), x, y, rw h at c)

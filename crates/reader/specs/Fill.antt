@@ -1,8 +1,8 @@
 -- Codes in mapped form, many of one length: what the faster pass may count on, and what it stores.
 use Prim.Native.Nat.{ℕ, _+_, _*_, _≤_}
 use mathlib.Core.Path.{_≡_}
-use mathlib.Core.List.{List}
-use lib.ListN.{length}
+use mathlib.Core.List.{List, [], _∷_}
+use lib.ListN.{length, getD}
 use Rattle.answers.specs.Table.{pick}
 use Rattle.numbers.specs.Words.{wordOf}
 use Rattle.imapb.specs.declared.mapping.Mapping.{Mapping}
@@ -28,6 +28,10 @@ module _ (v : List ℕ) (at : ℕ) where
 
   abbrev pub markedIn : List ℕ → ℕ → ℕ → ℕ → ℕ
   markedIn bytes codes L k = pick (vectorBit v at k) (mappedIn bytes codes L (onesBefore v at k)) 0
+
+-- byte i of a Bit Vector, alone
+abbrev pub oneByte : List ℕ → ℕ → ℕ → List ℕ
+oneByte v at i = getD v (at + i) 0 ∷ []
 
 -- n codes from `codes` on are there, and so much stands before them that each ends a word of eight bytes
 pub record Codes (bytes : List ℕ) (codes : ℕ) (m : Mapping) (n : ℕ) : Type 0 where

@@ -1,8 +1,6 @@
 //! The slots, in the one pass that decodes and stores them. Everything that can be refused has been by now.
 use crate::mapped::mapped_at;
-use answers::Check;
 use elements::number::Number;
-use elements::number::check_number;
 use elements::number::slot_at;
 use elements::present::presence_of;
 use imapb::mapping::ImapbMapping;
@@ -11,16 +9,13 @@ use imapb::mapping::imapb_mapping;
 use layout::control::ParseControl;
 ghost use mathlib.Core.Path.{_≡_};
 ghost use mathlib.Core.Bool.{true};
-ghost use mathlib.Core.List.{[], _∷_};
-ghost use Prim.Native.Nat.{_+_, _*_, _/_, _≤_};
+ghost use Prim.Native.Nat.{_+_, _*_, _/_, _≤_, _<_};
 ghost use lib.ListN.{length};
 ghost use lib.Seq.{sets};
 ghost use Rattle.answers.specs.Lent.{over, tab};
-ghost use Rattle.answers.specs.Table.{passes};
-ghost use Rattle.answers.specs.Listed.{checked};
 ghost use Rattle.elements.specs.Elements.{onesBefore, correlationIn, presenceIn};
 ghost use Rattle.elements.specs.Held.{SlotsHeld};
-ghost use Rattle.reader.specs.Fill.{mappedIn, markIn, markedIn, Codes};
+ghost use Rattle.reader.specs.Fill.{mappedIn, markIn, markedIn, oneByte, Codes};
 
 // The plain form: slot by slot, in every format.
 fn fill_plain(
@@ -31,11 +26,10 @@ fn fill_plain(
     slots: usize,
     correlations: &mut [u64],
     presence: &mut [u8],
-) -> Check
+)
     requires { ⌜ SlotsHeld (now bytes) vector codes control slots × (slots ≤ length (now correlations))
         × (slots ≤ length (now presence)) ⌝ }
-    ensures { λ r. ⌜ (checked r ≡ passes)
-        × (now (correlations .exit)
+    ensures { λ _. ⌜ (now (correlations .exit)
         ≡ over (tab slots (correlationIn (now (bytes .entry)) vector codes control)) (now (correlations .entry)))
         × (now (presence .exit)
         ≡ over (tab slots (presenceIn (now (bytes .entry)) vector control)) (now (presence .entry))) ⌝ }
@@ -46,15 +40,15 @@ fn fill_plain(
     while k < slots {
         let present = presence_of(bytes, vector, control, k);
         let number = slot_at(bytes, next, control, present);
+        // never: every slot's number has been decided
         let Number::Bits(x) = number else {
-            return check_number(number);
+            return;
         };
         correlations[k] = x;
         presence[k] = present;
         next += size * present as usize;
         k += 1;
     }
-    Check::Passes
 }
 
 // Mapped codes, all present.
@@ -82,36 +76,42 @@ fn fill_all(
     }
 }
 
-// Up to eight slots, by their byte of the Bit Vector: where the next code starts.
+// Up to eight slots, those of byte i of the Bit Vector: where the next code starts.
 fn fill_group(
     bytes: &[u8],
-    byte: u8,
+    vector: usize,
+    i: usize,
     at: usize,
     mapping: Mapping,
-    from: usize,
     count: usize,
     correlations: &mut [u64],
     presence: &mut [u8],
 ) -> usize
-    requires { ⌜ Codes (now bytes) at mapping (onesBefore (byte ∷ []) 0 count) × (count ≤ 8)
-        × (from + count ≤ length (now correlations)) × (from + count ≤ length (now presence)) ⌝ }
-    ensures { λ r. ⌜ (r ≡ at + onesBefore (byte ∷ []) 0 count * mapping .length)
+    requires { ⌜ Codes (now bytes) at mapping (onesBefore (oneByte (now bytes) vector i) 0 count) × (count ≤ 8)
+        × (vector + i < length (now bytes)) × (8 * i + count ≤ length (now correlations))
+        × (8 * i + count ≤ length (now presence)) ⌝ }
+    ensures { λ r. ⌜ (r ≡ at + onesBefore (oneByte (now (bytes .entry)) vector i) 0 count * mapping .length)
         × (now (correlations .exit)
-        ≡ sets (now (correlations .entry)) from
-        (tab count (markedIn (byte ∷ []) 0 (now (bytes .entry)) at (mapping .length))))
-        × (now (presence .exit) ≡ sets (now (presence .entry)) from (tab count (markIn (byte ∷ []) 0))) ⌝ }
+        ≡ sets (now (correlations .entry)) (8 * i)
+        (tab count (markedIn (oneByte (now (bytes .entry)) vector i) 0 (now (bytes .entry)) at (mapping .length))))
+        × (now (presence .exit)
+        ≡ sets (now (presence .entry)) (8 * i) (tab count (markIn (oneByte (now (bytes .entry)) vector i) 0))) ⌝ }
 {
+    let byte = bytes[vector + i];
+    let from = 8 * i;
     let mut next = at;
     let mut j: usize = 0;
     while j < count {
-        let k = from + j;
-        correlations[k] = 0;
-        presence[k] = 0;
+        let mut bits: u64 = 0;
+        let mut mark: u8 = 0;
         if (byte >> (7 - j)) % 2 == 1 {
-            correlations[k] = mapped_at(bytes, next, mapping);
-            presence[k] = 1;
+            bits = mapped_at(bytes, next, mapping);
+            mark = 1;
             next += mapping.length;
         }
+        let k = from + j;
+        correlations[k] = bits;
+        presence[k] = mark;
         j += 1;
     }
     next
@@ -139,26 +139,17 @@ fn fill_marked(
     let mut next = codes;
     let mut i: usize = 0;
     while i < whole {
-        next = fill_group(
-            bytes,
-            bytes[vector + i],
-            next,
-            mapping,
-            8 * i,
-            8,
-            correlations,
-            presence,
-        );
+        next = fill_group(bytes, vector, i, next, mapping, 8, correlations, presence);
         i += 1;
     }
     let rest = slots % 8;
     if 0 < rest {
         fill_group(
             bytes,
-            bytes[vector + whole],
+            vector,
+            whole,
             next,
             mapping,
-            8 * whole,
             rest,
             correlations,
             presence,
@@ -175,26 +166,30 @@ pub(crate) fn fill_slots(
     slots: usize,
     correlations: &mut [u64],
     presence: &mut [u8],
-) -> Check
+)
     requires { ⌜ SlotsHeld (now bytes) vector codes control slots
         × (control .cs ≡ true → vector + (slots + 7) / 8 ≤ length (now bytes)) × (slots ≤ length (now correlations))
         × (slots ≤ length (now presence)) ⌝ }
-    ensures { λ r. ⌜ (checked r ≡ passes)
-        × (now (correlations .exit)
+    ensures { λ _. ⌜ (now (correlations .exit)
         ≡ over (tab slots (correlationIn (now (bytes .entry)) vector codes control)) (now (correlations .entry)))
         × (now (presence .exit)
         ≡ over (tab slots (presenceIn (now (bytes .entry)) vector control)) (now (presence .entry))) ⌝ }
 {
-    let size = control.clen as usize;
     if control.cf {
         if 8 <= codes {
-            if let ImapbMapping::Of(mapping) = imapb_mapping(size) {
+            if let ImapbMapping::Of(mapping) = imapb_mapping(control.clen as usize) {
                 if control.cs {
-                    fill_marked(bytes, vector, codes, mapping, slots, correlations, presence);
-                } else {
-                    fill_all(bytes, codes, mapping, slots, correlations, presence);
+                    return fill_marked(
+                        bytes,
+                        vector,
+                        codes,
+                        mapping,
+                        slots,
+                        correlations,
+                        presence,
+                    );
                 }
-                return Check::Passes;
+                return fill_all(bytes, codes, mapping, slots, correlations, presence);
             }
         }
     }

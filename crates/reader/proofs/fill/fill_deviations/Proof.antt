@@ -1,6 +1,6 @@
 -- `fill::fill_deviations` meets its contract: each turn reads the next deviation, which is there, and stores it.
 -- Assumes nothing.
-use mathlib.Core.Path.{_≡_, refl}
+use mathlib.Core.Path.{_≡_}
 use Prim.Native.Nat.{ℕ, _+_, _-_, _*_}
 use native.Mathlib.Nat.{zero-mul}
 use native.Mathlib.Omega.{arith}
@@ -51,16 +51,13 @@ enum-known-number c = search needs
 enum-told : tie.Need-enum-told Inv-loop μ-loop
 enum-told c = search needs
 
-check-number-requires : tie.Need-check-number-requires Inv-loop μ-loop
-check-number-requires c κs = search needs
-
 same-length : tie.Need-same-length Inv-loop μ-loop
-same-length c = c .before .before .before .before .before .loop .inv .0 .long
+same-length c = c .before .before .before .before .loop .inv .0 .long
 
 returns : tie.Need-returns Inv-loop μ-loop
 returns c =
-    let d = c .before .before .before in
-    absurd (turn-never (turn (d .before)) (d .deviation-at .ensures) (c .before .enum-told .given .1))
+    let d = c .before .before in
+    absurd (turn-never (turn (d .before)) (d .deviation-at .ensures) (c .enum-told .given .1))
 
 mul-out : tie.Need-mul-out Inv-loop μ-loop
 mul-out c = omega arith
@@ -95,7 +92,7 @@ same-length-2 c = c .before .loop .inv .0 .long
 returns-2 : tie.Need-returns-2 Inv-loop μ-loop
 returns-2 c =
     let s = start (c .before) in
-    (refl, tab-done (s .args .count) (deviation s) (c .before .loop .inv .0) (c .loop-test .left))
+    tab-done (s .args .count) (deviation s) (c .before .loop .inv .0) (c .loop-test .left)
 
 pub fill-deviations-spec : {M : Type 1} → statement M
 fill-deviations-spec =
@@ -108,7 +105,6 @@ fill-deviations-spec =
     deviation-at-requires
     enum-known-number
     enum-told
-    check-number-requires
     same-length
     returns
     mul-out

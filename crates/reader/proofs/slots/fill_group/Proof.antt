@@ -1,56 +1,54 @@
--- `slots::fill_group` meets its contract: each turn stores an absent slot, and over it the next code's number where
--- the slot's bit is set.
+-- `slots::fill_group` meets its contract: each turn stores the next code's number where the slot's bit is set, and an
+-- absent slot where it is not.
 -- Assumes nothing.
 use mathlib.Core.Logic.{⊎-elim}
-use Prim.Native.Nat.{_+_, _-_, _≤_, _<_}
+use Prim.Native.Nat.{_+_, _-_, _*_, _^_, _≤_, _<_}
+use native.Mathlib.Nat.{le-of-lt}
 use native.Mathlib.Omega.{arith}
-use lib.ListN.{length, length-set}
+use lib.ListN.{length, getD}
 use Rattle.reader.specs.Fill.{Maps}
+use Rattle.reader.proofs.Counts.{fewer, up-fits, within-fits, entry-fits, bit-there, bit-fits, bit-shifts, starts-within, slot-within, slot-there}
 use Rattle.reader.proofs.Marked.{Group, group-none, group-long, group-code, group-set, group-unset, group-done}
 use Rattle.reader.proofs.slots.fill_group.Statement.{statement}
 use Rattle.reader.proofs.slots.fill_group.Tie as tie
 
 abbrev Inv-loop : tie.InvT-loop
-Inv-loop bytes byte at mapping from count correlations₀ presence₀ next₀ j₀ correlations presence next j =
-    Group byte bytes at mapping from count correlations₀ presence₀ j correlations presence next
+Inv-loop bytes vector i at mapping count correlations₀ presence₀ byte from next₀ j₀ correlations presence next j =
+    Group (getD bytes (vector + i) 0) bytes at mapping (8 * i) count correlations₀ presence₀ j correlations presence next
 
 abbrev μ-loop : tie.MeasureT-loop
-μ-loop bytes byte at mapping from count correlations₀ presence₀ next₀ j₀ correlations presence next j =
+μ-loop bytes vector i at mapping count correlations₀ presence₀ byte from next₀ j₀ correlations presence next j =
     count - j
 
 abbrev start : tie.At-loop Inv-loop μ-loop → tie.Start Inv-loop μ-loop
-start c = c .before .before .before .before
+start c = c .before .before .before .before .before
+
+-- what is lent is no longer than a number can count
+few : (s : tie.Start Inv-loop μ-loop)
+    → let n = length (s .args .correlations .now) in
+    (length (s .args .bytes .now) < 2 ^ 64) × ((n < 2 ^ 64) × (n * 8 < 2 ^ 64))
+few s = (omega arith, (omega arith, omega arith))
+
+add-byte : tie.Need-add-byte Inv-loop μ-loop
+add-byte c = let s = c .before .before .before in within-fits (le-of-lt (s .pre .2)) (few s .0)
+
+shared-slice-read-byte : tie.Need-shared-slice-read-byte Inv-loop μ-loop
+shared-slice-read-byte c = c .before .before .before .before .pre .2
+
+mul-from : tie.Need-mul-from Inv-loop μ-loop
+mul-from c = let s = c .before .before .before .before in within-fits (starts-within (8 * s .args .i) (s .args .count) (s .pre .3)) (few s .1 .0)
 
 loop-holds : tie.Need-loop-holds Inv-loop μ-loop
 loop-holds c = group-none
 
-add-k : tie.Need-add-k Inv-loop μ-loop
-add-k c = omega arith
-
-mul-correlations : tie.Need-mul-correlations Inv-loop μ-loop
-mul-correlations c = omega arith
-
--- the turn's slot is there, in both
-room : (c : tie.In-loop Inv-loop μ-loop)
-    → let k = start (c .before) .args .from + c .before .loop .j in
-    (k < length (c .before .loop .correlations)) × (k < length (c .before .loop .presence))
-room c =
-    let l = group-long (c .before .loop .inv) in (omega (arith, l .0), omega (arith, l .1))
-
-slice-write-correlations : tie.Need-slice-write-correlations Inv-loop μ-loop
-slice-write-correlations c = room c .0
-
-slice-write-presence : tie.Need-slice-write-presence Inv-loop μ-loop
-slice-write-presence c = room c .1
-
 sub-if1 : tie.Need-sub-if1 Inv-loop μ-loop
-sub-if1 c = omega arith
+sub-if1 c = bit-there (c .loop-test .taken) (start (c .before) .pre .1)
 
 cast-if1 : tie.Need-cast-if1 Inv-loop μ-loop
-cast-if1 c = omega arith
+cast-if1 c = bit-fits (c .before .loop .j)
 
 shr-if1 : tie.Need-shr-if1 Inv-loop μ-loop
-shr-if1 c = omega arith
+shr-if1 c = bit-shifts (c .before .loop .j)
 
 -- the next code
 there : (c : tie.Then1 Inv-loop μ-loop)
@@ -65,23 +63,40 @@ there c =
 mapped-at-requires : tie.Need-mapped-at-requires Inv-loop μ-loop
 mapped-at-requires c κs = there c
 
-mul-correlations-2 : tie.Need-mul-correlations-2 Inv-loop μ-loop
-mul-correlations-2 c = omega arith
-
-slice-write-correlations-2 : tie.Need-slice-write-correlations-2 Inv-loop μ-loop
-slice-write-correlations-2 c = rw length-set (room (c .before .before) .0)
-
-slice-write-presence-2 : tie.Need-slice-write-presence-2 Inv-loop μ-loop
-slice-write-presence-2 c = rw length-set (room (c .before .before) .1)
-
 add-next : tie.Need-add-next Inv-loop μ-loop
-add-next c = omega (arith, there (c .before .before))
+add-next c = let t = c .before .before in within-fits (there t .2) (few (start (t .before .before)) .0)
+
+-- the turn's slot is there
+within : (c : tie.In-loop Inv-loop μ-loop) → let a = start (c .before) .args in 8 * a .i + c .before .loop .j ≤ length (a .correlations .now)
+within c = let s = start (c .before) in slot-within (8 * s .args .i) (s .args .count) (s .pre .3) (c .loop-test .taken)
+
+add-k : tie.Need-add-k Inv-loop μ-loop
+add-k c = let s = start (c .before .before) in within-fits (within (c .before)) (few s .1 .0)
+
+mul-correlations : tie.Need-mul-correlations Inv-loop μ-loop
+mul-correlations c = let s = start (c .before .before) in entry-fits (within (c .before)) (few s .1 .1)
+
+-- in both
+room : (c : tie.In-loop Inv-loop μ-loop)
+    → let k = 8 * start (c .before) .args .i + c .before .loop .j in
+    (k < length (c .before .loop .correlations)) × (k < length (c .before .loop .presence))
+room c =
+    let s = start (c .before) in
+    let l = group-long (c .before .loop .inv) in
+    rw (l .0, l .1)
+    (slot-there (8 * s .args .i) (s .args .count) (s .pre .3) (c .loop-test .taken), slot-there (8 * s .args .i) (s .args .count) (s .pre .4) (c .loop-test .taken))
+
+slice-write-correlations : tie.Need-slice-write-correlations Inv-loop μ-loop
+slice-write-correlations c = room (c .before) .0
+
+slice-write-presence : tie.Need-slice-write-presence Inv-loop μ-loop
+slice-write-presence c = room (c .before) .1
 
 add-j : tie.Need-add-j Inv-loop μ-loop
-add-j c = omega arith
+add-j c = up-fits (c .before .loop-test .taken) (start (c .before .before) .fits .count .fits)
 
 loop-less : tie.Need-loop-less Inv-loop μ-loop
-loop-less c = omega arith
+loop-less c = fewer (c .before .loop-test .taken)
 
 loop-again : tie.Need-loop-again Inv-loop μ-loop
 loop-again c =
@@ -107,19 +122,19 @@ fill-group-spec =
     (tie.spec
     Inv-loop
     μ-loop
+    add-byte
+    shared-slice-read-byte
+    mul-from
     loop-holds
-    add-k
-    mul-correlations
-    slice-write-correlations
-    slice-write-presence
     sub-if1
     cast-if1
     shr-if1
     mapped-at-requires
-    mul-correlations-2
-    slice-write-correlations-2
-    slice-write-presence-2
     add-next
+    add-k
+    mul-correlations
+    slice-write-correlations
+    slice-write-presence
     add-j
     loop-less
     loop-again

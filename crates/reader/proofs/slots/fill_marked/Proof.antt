@@ -2,8 +2,10 @@
 -- may have fewer than eight.
 -- Assumes nothing.
 use mathlib.Core.Path.{_≡_}
-use Prim.Native.Nat.{_+_, _-_, _*_, _/_, _%_, _≤_}
+use Prim.Native.Nat.{_+_, _-_, _*_, _/_, _%_, _^_, _≤_, _<_, zero-le}
+use native.Mathlib.Nat.{le-refl}
 use native.Mathlib.Omega.{arith}
+use Rattle.reader.proofs.Counts.{fewer, up, up-fits, eight-there, eight-next, byte-there, whole-bytes, rest-is, rest-there, no-rest}
 use Rattle.reader.proofs.Marked.{Marked, marked-none, marked-codes, marked-room, marked-more, marked-done}
 use Rattle.reader.proofs.slots.fill_marked.Statement.{statement}
 use Rattle.reader.proofs.slots.fill_marked.Tie as tie
@@ -20,53 +22,40 @@ abbrev start : tie.At-loop Inv-loop μ-loop → tie.Start Inv-loop μ-loop
 start c = c .before .before .before .before
 
 loop-holds : tie.Need-loop-holds Inv-loop μ-loop
-loop-holds c = let s = c .before .before .before in (omega arith, marked-none (s .pre .2) (s .pre .3))
+loop-holds c = let s = c .before .before .before in (zero-le, marked-none (s .pre .2) (s .pre .3))
 
-add-fill-group : tie.Need-add-fill-group Inv-loop μ-loop
-add-fill-group c = omega arith
+abbrev in-loop : tie.After-slice-known4 Inv-loop μ-loop → tie.In-loop Inv-loop μ-loop
+in-loop c = c .before .before .before .before .before .before .before
 
-shared-slice-read-fill-group : tie.Need-shared-slice-read-fill-group Inv-loop μ-loop
-shared-slice-read-fill-group c = omega arith
-
-mul-fill-group : tie.Need-mul-fill-group Inv-loop μ-loop
-mul-fill-group c = omega arith
+bytes-few : (s : tie.Start Inv-loop μ-loop) → s .args .slots / 8 < 2 ^ 64
+bytes-few s = omega arith
 
 -- a whole byte's slots are there
 eight : (c : tie.In-loop Inv-loop μ-loop) → 8 * c .before .loop .i + 8 ≤ start (c .before) .args .slots
-eight c = omega arith
+eight c = eight-there (start (c .before) .args .slots) (c .loop-test .taken)
 
 fill-group-requires : tie.Need-fill-group-requires Inv-loop μ-loop
 fill-group-requires c κs =
-    let w = c .before .before .before in
+    let w = c .before .before in
     let l = w .before .loop in
     let s = start (w .before) in
     let h = eight w in
-    let r = marked-room (l .i) (l .inv .1) h (omega arith) in
-    (marked-codes (l .i) (l .inv .1) h (omega arith) (s .pre .0), omega arith, r .0, r .1)
+    let r = marked-room (l .i) (l .inv .1) h (le-refl 8) in
+    (marked-codes (l .i) (l .inv .1) h (le-refl 8) (s .pre .0), le-refl 8, byte-there (s .args .slots) (s .args .vector) (w .loop-test .taken) (s .pre .1), r .0, r .1)
 
 add-i : tie.Need-add-i Inv-loop μ-loop
-add-i c = omega arith
+add-i c = let w = in-loop c in up-fits (w .loop-test .taken) (bytes-few (start (w .before)))
 
 loop-less : tie.Need-loop-less Inv-loop μ-loop
-loop-less c = omega arith
+loop-less c = fewer (in-loop c .loop-test .taken)
 
 loop-again : tie.Need-loop-again Inv-loop μ-loop
 loop-again c =
     let d = c .before .before .before .before in
-    let w = d .before .before .before .before in
+    let w = d .before .before .before in
     let l = w .before .loop in
-    let e : 8 * (l .i + 1) ≡ 8 * l .i + 8 = omega arith in
     let n = d .fill-group .ensures in
-    (omega arith, rw e (marked-more (l .i) (l .inv .1) (eight w) (omega arith) (n .0) (n .1) (n .2)))
-
-add-fill-group-2 : tie.Need-add-fill-group-2 Inv-loop μ-loop
-add-fill-group-2 c = omega arith
-
-shared-slice-read-fill-group-2 : tie.Need-shared-slice-read-fill-group-2 Inv-loop μ-loop
-shared-slice-read-fill-group-2 c = omega arith
-
-mul-fill-group-2 : tie.Need-mul-fill-group-2 Inv-loop μ-loop
-mul-fill-group-2 c = omega arith
+    (up (w .loop-test .taken), rw (eight-next (l .i)) (marked-more (l .i) (l .inv .1) (eight w) (le-refl 8) (n .0) (n .1) (n .2)))
 
 -- after the loop the slots of the whole bytes are filled
 filled : (c : tie.After-loop Inv-loop μ-loop)
@@ -74,31 +63,33 @@ filled : (c : tie.After-loop Inv-loop μ-loop)
     let a = start (c .before) .args in
     Marked (a .bytes .now) (a .vector) (a .codes) (a .mapping) (a .slots) (a .correlations .now) (a .presence .now) (8 * (a .slots / 8)) (l .correlations) (l .presence) (l .next)
 filled c =
-    let e : c .before .loop .i ≡ start (c .before) .args .slots / 8 = omega arith in
+    let e : c .before .loop .i ≡ start (c .before) .args .slots / 8 = whole-bytes (start (c .before) .args .slots) (c .before .loop .inv .0) (c .loop-test .left) in
     rw e at (c .before .loop .inv .1)
 
 -- the last byte's slots are there
 rest : (c : tie.After-loop Inv-loop μ-loop) → let a = start (c .before) .args in 8 * (a .slots / 8) + a .slots % 8 ≤ a .slots
-rest c = omega arith
+rest c = rest-is (start (c .before) .args .slots) .0
 
 fill-group-requires-2 : tie.Need-fill-group-requires-2 Inv-loop μ-loop
 fill-group-requires-2 c κs =
-    let w = c .before .before .before .before in
+    let w = c .before .before .before in
     let s = start (w .before) in
     let i = s .args .slots / 8 in
     let h = rest w in
-    let r = marked-room i (filled w) h (omega arith) in
-    (marked-codes i (filled w) h (omega arith) (s .pre .0), omega arith, r .0, r .1)
+    let most = rest-is (s .args .slots) .2 in
+    let r = marked-room i (filled w) h most in
+    (marked-codes i (filled w) h most (s .pre .0), most, rest-there (s .args .slots) (s .args .vector) (c .before .before .if1 .taken) (s .pre .1), r .0, r .1)
 
 -- and are filled too
 last-filled : (c : tie.After-fill-group2 Inv-loop μ-loop)
-    → let a = start (c .before .before .before .before .before .before) .args in
+    → let a = start (c .before .before .before .before .before) .args in
     let r = c .fill-group2 .last .1 .1 .1 .1 .1 .1 in
     Marked (a .bytes .now) (a .vector) (a .codes) (a .mapping) (a .slots) (a .correlations .now) (a .presence .now) (8 * (a .slots / 8) + a .slots % 8) (r .0) (r .1 .0) (c .fill-group2 .result)
 last-filled c =
-    let w = c .before .before .before .before .before in
+    let w = c .before .before .before .before in
     let n = c .fill-group2 .ensures in
-    marked-more (start (w .before) .args .slots / 8) (filled w) (rest w) (omega arith) (n .0) (n .1) (n .2)
+    let slots = start (w .before) .args .slots in
+    marked-more (slots / 8) (filled w) (rest w) (rest-is slots .2) (n .0) (n .1) (n .2)
 
 same-length : tie.Need-same-length Inv-loop μ-loop
 same-length c = last-filled (c .before .before .before .before) .numbers .long
@@ -107,7 +98,9 @@ same-length-2 : tie.Need-same-length-2 Inv-loop μ-loop
 same-length-2 c = last-filled (c .before .before .before .before) .marks .long
 
 returns : tie.Need-returns Inv-loop μ-loop
-returns c = marked-done (last-filled (c .before .before .before .before)) (omega arith)
+returns c =
+    let f = c .before .before .before .before in
+    marked-done (last-filled f) (rest-is (start (f .before .before .before .before .before) .args .slots) .1)
 
 same-length-3 : tie.Need-same-length-3 Inv-loop μ-loop
 same-length-3 c = c .before .before .loop .inv .1 .numbers .long
@@ -116,7 +109,7 @@ same-length-4 : tie.Need-same-length-4 Inv-loop μ-loop
 same-length-4 c = c .before .before .loop .inv .1 .marks .long
 
 returns-2 : tie.Need-returns-2 Inv-loop μ-loop
-returns-2 c = marked-done (c .before .before .loop .inv .1) (omega arith)
+returns-2 c = marked-done (c .before .before .loop .inv .1) (no-rest (start (c .before .before) .args .slots) (c .before .loop-test .left) (c .if1 .left))
 
 pub fill-marked-spec : {M : Type 1} → statement M
 fill-marked-spec =
@@ -125,16 +118,10 @@ fill-marked-spec =
     Inv-loop
     μ-loop
     loop-holds
-    add-fill-group
-    shared-slice-read-fill-group
-    mul-fill-group
     fill-group-requires
     add-i
     loop-less
     loop-again
-    add-fill-group-2
-    shared-slice-read-fill-group-2
-    mul-fill-group-2
     fill-group-requires-2
     same-length
     same-length-2

@@ -1,14 +1,17 @@
 -- `slots::fill_plain` meets its contract: each turn stores whether the slot is present, and its number, whose code is
 -- there if it is.
 -- Assumes nothing.
-use mathlib.Core.Path.{_≡_, refl}
-use Prim.Native.Nat.{ℕ, _-_}
+use mathlib.Core.Path.{_≡_}
+use Prim.Native.Nat.{ℕ, _-_, _*_, _^_, _<_}
+use native.Mathlib.Nat.{le-of-lt, le-trans}
 use native.Mathlib.Omega.{arith}
 use borrow.Author.Needs.{needs}
+use lib.ListN.{length}
 use Rattle.answers.specs.Lent.{tab}
 use Rattle.answers.proofs.Lent.{Front}
 use Rattle.elements.specs.Elements.{correlationIn, presenceIn}
 use Rattle.answers.proofs.Tab.{tab-none, tab-room, tab-more, tab-done}
+use Rattle.reader.proofs.Counts.{fewer, up-fits, within-fits, later-fits, entry-fits}
 use Rattle.reader.proofs.Filled.{turn-value, turn-never, codeAt, first-code, SlotTurn, slot-turn}
 use Rattle.reader.proofs.slots.fill_plain.Statement.{statement}
 use Rattle.reader.proofs.slots.fill_plain.Tie as tie
@@ -25,6 +28,13 @@ abbrev μ-loop : tie.MeasureT-loop
 
 abbrev start : tie.At-loop Inv-loop μ-loop → tie.Start Inv-loop μ-loop
 start c = c .before .before .before .before .before
+
+abbrev in-loop : tie.After-known-told Inv-loop μ-loop → tie.In-loop Inv-loop μ-loop
+in-loop c = c .before .before .before .before .before
+
+-- what is lent is no longer than a number can count
+few : (s : tie.Start Inv-loop μ-loop) → (length (s .args .bytes .now) < 2 ^ 64) × (length (s .args .correlations .now) * 8 < 2 ^ 64)
+few s = (omega arith, omega arith)
 
 -- slot k of the arguments
 abbrev correlation : tie.Start Inv-loop μ-loop → ℕ → ℕ
@@ -63,22 +73,22 @@ enum-known-number c = search needs
 enum-told : tie.Need-enum-told Inv-loop μ-loop
 enum-told c = search needs
 
-check-number-requires : tie.Need-check-number-requires Inv-loop μ-loop
-check-number-requires c κs = search needs
-
 same-length : tie.Need-same-length Inv-loop μ-loop
-same-length c = c .before .before .before .before .before .before .loop .inv .0 .long
+same-length c = c .before .before .before .before .before .loop .inv .0 .long
 
 same-length-2 : tie.Need-same-length-2 Inv-loop μ-loop
-same-length-2 c = c .before .before .before .before .before .before .loop .inv .1 .long
+same-length-2 c = c .before .before .before .before .before .loop .inv .1 .long
 
 returns : tie.Need-returns Inv-loop μ-loop
 returns c =
-    let d = c .before .before .before in
-    absurd (turn-never (turn (d .before)) (d .slot-at .ensures) (c .before .enum-told .given .1))
+    let d = c .before .before in
+    absurd (turn-never (turn (d .before)) (d .slot-at .ensures) (c .enum-told .given .1))
 
 mul-correlations : tie.Need-mul-correlations Inv-loop μ-loop
-mul-correlations c = omega arith
+mul-correlations c =
+    let w = in-loop c in
+    let s = start (w .before) in
+    entry-fits (le-trans (le-of-lt (w .loop-test .taken)) (s .pre .1)) (few s .1)
 
 slice-write-correlations : tie.Need-slice-write-correlations Inv-loop μ-loop
 slice-write-correlations c =
@@ -96,16 +106,16 @@ cast-next : tie.Need-cast-next Inv-loop μ-loop
 cast-next c = omega arith
 
 mul-next : tie.Need-mul-next Inv-loop μ-loop
-mul-next c = omega (arith, turn (c .before .before .before .before))
+mul-next c = later-fits (c .before .before .before .before .before .before .loop .next) (turn (c .before .before .before .before) .within) (few (start (in-loop c .before)) .0)
 
 add-next : tie.Need-add-next Inv-loop μ-loop
-add-next c = omega (arith, turn (c .before .before .before .before))
+add-next c = within-fits (turn (c .before .before .before .before) .within) (few (start (in-loop c .before)) .0)
 
 add-k : tie.Need-add-k Inv-loop μ-loop
-add-k c = omega arith
+add-k c = let w = in-loop c in up-fits (w .loop-test .taken) (start (w .before) .fits .slots .fits)
 
 loop-less : tie.Need-loop-less Inv-loop μ-loop
-loop-less c = omega arith
+loop-less c = fewer (in-loop c .loop-test .taken)
 
 loop-again : tie.Need-loop-again Inv-loop μ-loop
 loop-again c =
@@ -127,7 +137,7 @@ returns-2 : tie.Need-returns-2 Inv-loop μ-loop
 returns-2 c =
     let s = start (c .before) in
     let i = c .before .loop .inv in
-    (refl, tab-done (s .args .slots) (correlation s) (i .0) (c .loop-test .left), tab-done (s .args .slots) (presence s) (i .1) (c .loop-test .left))
+    (tab-done (s .args .slots) (correlation s) (i .0) (c .loop-test .left), tab-done (s .args .slots) (presence s) (i .1) (c .loop-test .left))
 
 pub fill-plain-spec : {M : Type 1} → statement M
 fill-plain-spec =
@@ -141,7 +151,6 @@ fill-plain-spec =
     slot-at-requires
     enum-known-number
     enum-told
-    check-number-requires
     same-length
     same-length-2
     returns
