@@ -3,7 +3,7 @@
 use mathlib.Core.Path.{_≡_}
 use Prim.Native.Nat.{ℕ, _+_, _-_, _*_, _/_, _%_, _^_, _≤_, _<_}
 use native.Mathlib.Omega.{arith}
-use mir.Syntax.{w8, w64}
+use mir.Syntax.{w64}
 use mir.Val.{Fits}
 
 -- ---- turn k of n
@@ -27,16 +27,6 @@ later-fits a h f = omega arith
 -- where entry x of n starts, eight bytes to an entry
 pub entry-fits : {x n : ℕ} → x ≤ n → n * 8 < 2 ^ 64 → Fits w64 (x * 8)
 entry-fits h f = omega arith
-
--- ---- bit j of a byte, the highest first
-pub bit-there : {j n : ℕ} → j < n → n ≤ 8 → j ≤ 7
-bit-there h k = omega arith
-
-pub bit-fits : (j : ℕ) → Fits w8 (7 - j)
-bit-fits j = omega arith
-
-pub bit-shifts : (j : ℕ) → 7 - j < 8
-bit-shifts j = omega arith
 
 -- ---- slots from `at` on
 module _ (at count : ℕ) {n : ℕ} (h : at + count ≤ n) where

@@ -15,6 +15,7 @@ use Rattle.answers.proofs.OneToOne.{refused-not-done}
 use Rattle.answers.proofs.Outcome.{found-tells, refused-tells}
 use Rattle.layout.specs.Size.{fitRules}
 use Rattle.layout.specs.Triangle.{slotsOf}
+use Rattle.layout.specs.declared.pack.SdccFlp.{SdccFlp}
 use Rattle.elements.specs.declared.head.Head.{Head}
 use Rattle.elements.specs.declared.head.Places.{Places}
 use Rattle.elements.specs.Elements.{headOf, placesOf, deviationsAt, deviationCount, codesAt}
@@ -121,13 +122,13 @@ module _ (x : ReadAnswer) (bytes ds cs ps : List ℕ) where
 
 -- and done: the numbers, over what was there
 module _ (bytes ds cs ps : List ℕ) {p : Places} (o : found p ≡ verdict bytes (packRules bytes)) (e : roomRules (p .head) (length ds) (length cs) (length ps) ≡ passes) where
-  pub stored : {ds′ cs′ ps′ : List ℕ}
+  pub stored : {pack : SdccFlp} {ds′ cs′ ps′ : List ℕ} → pack ≡ packOf (p .head)
       → ds′ ≡ over (tab (deviationCount (p .head)) (deviationIn bytes (p .deviations) (p .head .control))) ds
       → cs′ ≡ over (tab (slotsOf (p .head .n)) (correlationIn bytes (p .head .body) (p .codes) (p .head .control))) cs
       → ps′ ≡ over (tab (slotsOf (p .head .n)) (presenceIn bytes (p .head .body) (p .head .control))) ps
-      → Meets (Done (packOf (p .head))) bytes ds cs ps ds′ cs′ ps′
-  stored a b c =
+      → Meets (Done pack) bytes ds cs ps ds′ cs′ ps′
+  stored k a b c =
       let h = head-is bytes (length ds) (length cs) (length ps) o in
       let x = rw (deviations-at bytes ds cs ps o e, h) at a in
       let y = rw (codes-at bytes ds cs ps o e, h) at b in
-      (rw h (all-pass bytes (length ds) (length cs) (length ps) o e), x, y, rw h at c)
+      rw k (rw h (all-pass bytes (length ds) (length cs) (length ps) o e), x, y, rw h at c)

@@ -101,7 +101,7 @@ returns-3 c =
     let a = start (opened t .before .before) .args in
     let e = p .pack-of .ensures in
     let s = stored (a .bytes .now) (a .deviations .now) (a .correlations .now) (a .presence .now) (was-open (opened t)) (has-room t) in
-    rw e (s (rw e at (d .fill-deviations .ensures)) (rw e at (f .fill-slots .ensures .0)) (rw e at (f .fill-slots .ensures .1)))
+    s e (rw e at (d .fill-deviations .ensures)) (rw e at (f .fill-slots .ensures .0)) (rw e at (f .fill-slots .ensures .1))
 
 pub decode-sdcc-flp-spec : {M : Type 1} → statement M
 decode-sdcc-flp-spec =

@@ -7,7 +7,7 @@ use native.Mathlib.Nat.{le-of-lt}
 use native.Mathlib.Omega.{arith}
 use lib.ListN.{length, getD}
 use Rattle.reader.specs.Fill.{Maps}
-use Rattle.reader.proofs.Counts.{fewer, up-fits, within-fits, entry-fits, bit-there, bit-fits, bit-shifts, starts-within, slot-within, slot-there}
+use Rattle.reader.proofs.Counts.{fewer, up-fits, within-fits, entry-fits, starts-within, slot-within, slot-there}
 use Rattle.reader.proofs.Marked.{Group, group-none, group-long, group-code, group-set, group-unset, group-done}
 use Rattle.reader.proofs.slots.fill_group.Statement.{statement}
 use Rattle.reader.proofs.slots.fill_group.Tie as tie
@@ -42,13 +42,13 @@ loop-holds : tie.Need-loop-holds Inv-loop μ-loop
 loop-holds c = group-none
 
 sub-if1 : tie.Need-sub-if1 Inv-loop μ-loop
-sub-if1 c = bit-there (c .loop-test .taken) (start (c .before) .pre .1)
+sub-if1 c = omega arith
 
 cast-if1 : tie.Need-cast-if1 Inv-loop μ-loop
-cast-if1 c = bit-fits (c .before .loop .j)
+cast-if1 c = omega arith
 
 shr-if1 : tie.Need-shr-if1 Inv-loop μ-loop
-shr-if1 c = bit-shifts (c .before .loop .j)
+shr-if1 c = omega arith
 
 -- the next code
 there : (c : tie.Then1 Inv-loop μ-loop)
