@@ -10,7 +10,7 @@ use native.Mathlib.Omega.{arith}
 use borrow.Author.Tests.{leb-true, eq-eqb, ne-eqb}
 use lib.Dec.{leb, eqb}
 use lib.ListN.{length, getD, set}
-use lib.Seq.{sets, length-sets}
+use lib.Seq.{sets, length-sets, set-set}
 use Rattle.answers.specs.Lent.{over, tab}
 use Rattle.answers.specs.Table.{pick}
 use Rattle.answers.proofs.Lent.{length-tab, tab-same, Front}
@@ -85,12 +85,12 @@ module _ {byte : ℕ} {bytes : List ℕ} {at : ℕ} {m : Mapping} {from count : 
             code-there k n (g .on)
 
         pub group-set : {r : ℕ} → r ≡ valueBits (reading (m .length) (wordOf (part bytes next (m .length))))
-            → Group byte bytes at m from count c₀ p₀ (j + 1) (set c (from + j) r) (set p (from + j) 1) (next + m .length)
+            → Group byte bytes at m from count c₀ p₀ (j + 1) (set (set c (from + j) 0) (from + j) r) (set (set p (from + j) 0) (from + j) 1) (next + m .length)
         group-set e =
             record {
               within = omega arith;
-              numbers = rw (← (sets-tab c₀ from j (markedIn (byte ∷ []) 0 bytes at (m .length))), marked, g .numbers, e, g .on);
-              marks = rw (← (sets-tab p₀ from j (markIn (byte ∷ []) 0)), marked, g .marks);
+              numbers = rw (set-set, ← (sets-tab c₀ from j (markedIn (byte ∷ []) 0 bytes at (m .length))), marked, g .numbers, e, g .on);
+              marks = rw (set-set, ← (sets-tab p₀ from j (markIn (byte ∷ []) 0)), marked, g .marks);
               on = rw (add-one, marked) (code-next at (m .length) (onesBefore (byte ∷ []) 0 j) (g .on));
             }
 

@@ -102,16 +102,14 @@ fn fill_group(
     let mut next = at;
     let mut j: usize = 0;
     while j < count {
-        let mut bits: u64 = 0;
-        let mut mark: u8 = 0;
+        let k = from + j;
+        correlations[k] = 0;
+        presence[k] = 0;
         if (byte >> (7 - j)) % 2 == 1 {
-            bits = mapped_at(bytes, next, mapping);
-            mark = 1;
+            correlations[k] = mapped_at(bytes, next, mapping);
+            presence[k] = 1;
             next += mapping.length;
         }
-        let k = from + j;
-        correlations[k] = bits;
-        presence[k] = mark;
         j += 1;
     }
     next

@@ -1,11 +1,11 @@
--- `slots::fill_group` meets its contract: each turn stores the next code's number where the slot's bit is set, and an
--- absent slot where it is not.
+-- `slots::fill_group` meets its contract: each turn stores an absent slot, and over it the next code's number where
+-- the slot's bit is set.
 -- Assumes nothing.
 use mathlib.Core.Logic.{⊎-elim}
 use Prim.Native.Nat.{_+_, _-_, _*_, _^_, _≤_, _<_}
 use native.Mathlib.Nat.{le-of-lt}
 use native.Mathlib.Omega.{arith}
-use lib.ListN.{length, getD}
+use lib.ListN.{length, getD, length-set}
 use Rattle.reader.specs.Fill.{Maps}
 use Rattle.reader.proofs.Counts.{fewer, up-fits, within-fits, entry-fits, starts-within, slot-within, slot-there}
 use Rattle.reader.proofs.Marked.{Group, group-none, group-long, group-code, group-set, group-unset, group-done}
@@ -41,6 +41,32 @@ mul-from c = let s = c .before .before .before .before in within-fits (starts-wi
 loop-holds : tie.Need-loop-holds Inv-loop μ-loop
 loop-holds c = group-none
 
+-- the turn's slot is there
+within : (c : tie.In-loop Inv-loop μ-loop) → let a = start (c .before) .args in 8 * a .i + c .before .loop .j ≤ length (a .correlations .now)
+within c = let s = start (c .before) in slot-within (8 * s .args .i) (s .args .count) (s .pre .3) (c .loop-test .taken)
+
+add-k : tie.Need-add-k Inv-loop μ-loop
+add-k c = within-fits (within c) (few (start (c .before)) .1 .0)
+
+mul-correlations : tie.Need-mul-correlations Inv-loop μ-loop
+mul-correlations c = entry-fits (within c) (few (start (c .before)) .1 .1)
+
+-- in both
+room : (c : tie.In-loop Inv-loop μ-loop)
+    → let k = 8 * start (c .before) .args .i + c .before .loop .j in
+    (k < length (c .before .loop .correlations)) × (k < length (c .before .loop .presence))
+room c =
+    let s = start (c .before) in
+    let l = group-long (c .before .loop .inv) in
+    rw (l .0, l .1)
+    (slot-there (8 * s .args .i) (s .args .count) (s .pre .3) (c .loop-test .taken), slot-there (8 * s .args .i) (s .args .count) (s .pre .4) (c .loop-test .taken))
+
+slice-write-correlations : tie.Need-slice-write-correlations Inv-loop μ-loop
+slice-write-correlations c = room c .0
+
+slice-write-presence : tie.Need-slice-write-presence Inv-loop μ-loop
+slice-write-presence c = room c .1
+
 sub-if1 : tie.Need-sub-if1 Inv-loop μ-loop
 sub-if1 c = omega arith
 
@@ -63,34 +89,17 @@ there c =
 mapped-at-requires : tie.Need-mapped-at-requires Inv-loop μ-loop
 mapped-at-requires c κs = there c
 
+mul-correlations-2 : tie.Need-mul-correlations-2 Inv-loop μ-loop
+mul-correlations-2 c = let w = c .before .before in entry-fits (within w) (few (start (w .before)) .1 .1)
+
+slice-write-correlations-2 : tie.Need-slice-write-correlations-2 Inv-loop μ-loop
+slice-write-correlations-2 c = rw length-set (room (c .before .before) .0)
+
+slice-write-presence-2 : tie.Need-slice-write-presence-2 Inv-loop μ-loop
+slice-write-presence-2 c = rw length-set (room (c .before .before) .1)
+
 add-next : tie.Need-add-next Inv-loop μ-loop
 add-next c = let t = c .before .before in within-fits (there t .2) (few (start (t .before .before)) .0)
-
--- the turn's slot is there
-within : (c : tie.In-loop Inv-loop μ-loop) → let a = start (c .before) .args in 8 * a .i + c .before .loop .j ≤ length (a .correlations .now)
-within c = let s = start (c .before) in slot-within (8 * s .args .i) (s .args .count) (s .pre .3) (c .loop-test .taken)
-
-add-k : tie.Need-add-k Inv-loop μ-loop
-add-k c = let s = start (c .before .before) in within-fits (within (c .before)) (few s .1 .0)
-
-mul-correlations : tie.Need-mul-correlations Inv-loop μ-loop
-mul-correlations c = let s = start (c .before .before) in entry-fits (within (c .before)) (few s .1 .1)
-
--- in both
-room : (c : tie.In-loop Inv-loop μ-loop)
-    → let k = 8 * start (c .before) .args .i + c .before .loop .j in
-    (k < length (c .before .loop .correlations)) × (k < length (c .before .loop .presence))
-room c =
-    let s = start (c .before) in
-    let l = group-long (c .before .loop .inv) in
-    rw (l .0, l .1)
-    (slot-there (8 * s .args .i) (s .args .count) (s .pre .3) (c .loop-test .taken), slot-there (8 * s .args .i) (s .args .count) (s .pre .4) (c .loop-test .taken))
-
-slice-write-correlations : tie.Need-slice-write-correlations Inv-loop μ-loop
-slice-write-correlations c = room (c .before) .0
-
-slice-write-presence : tie.Need-slice-write-presence Inv-loop μ-loop
-slice-write-presence c = room (c .before) .1
 
 add-j : tie.Need-add-j Inv-loop μ-loop
 add-j c = up-fits (c .before .loop-test .taken) (start (c .before .before) .fits .count .fits)
@@ -126,15 +135,18 @@ fill-group-spec =
     shared-slice-read-byte
     mul-from
     loop-holds
-    sub-if1
-    cast-if1
-    shr-if1
-    mapped-at-requires
-    add-next
     add-k
     mul-correlations
     slice-write-correlations
     slice-write-presence
+    sub-if1
+    cast-if1
+    shr-if1
+    mapped-at-requires
+    mul-correlations-2
+    slice-write-correlations-2
+    slice-write-presence-2
+    add-next
     add-j
     loop-less
     loop-again
