@@ -3,3 +3,4 @@ pub mod Begins
 pub mod Parts
 pub mod Asked
 pub mod OneAnswer
+pub mod Examples

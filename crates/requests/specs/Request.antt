@@ -13,7 +13,8 @@ use Rattle.requests.specs.Fields.{fieldAt, lineAfter, wordsAfter}
 abbrev pub unfilled : ℕ → Request
 unfilled form = record { form = form; size = 0; value = 0; given = 0; room = 0; rows = 0; slots = 0 }
 
--- what a field's letter says goes to one of them; a letter that is none says nothing
+-- `N` says the size, `I`, `P`, `W` and `X` the value, `H` and `J` what is given, `F` and `R` the room, `D` and `S` the
+-- rows, `C` and `E` the slots; any other letter says nothing
 unfoldable pub with : ℕ → ℕ → Request → Request
 with letter value r =
     record {
