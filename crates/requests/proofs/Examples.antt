@@ -7,7 +7,7 @@ use Rattle.text.specs.Numeral.{worth}
 use Rattle.text.specs.Text.{ascii}
 use Rattle.replies.specs.Forms.{forms}
 use Rattle.requests.specs.Fields.{most, numberAt, listOf, wordsOf, fieldAt, lineAfter, wordsAfter}
-use Rattle.requests.specs.Request.{unfilled, with, askedBy, requestOf, lineLeft, wordsLeft}
+use Rattle.requests.specs.Request.{unfilled, with, askedBy, requestOf, lineLeft}
 
 -- a byte string, which stands in the front of its line
 abbrev mapped : List ℕ

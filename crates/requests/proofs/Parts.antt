@@ -1,6 +1,6 @@
 -- The parts of the words that the two lists have, where the words are fewer too.
 -- Assumes nothing.
-use mathlib.Core.Path.{_≡_, refl, sym, ap, _∙_}
+use mathlib.Core.Path.{_≡_, ap, _∙_}
 use mathlib.Core.List.{List, [], _∷_, _++_, append-nil}
 use Prim.Native.Nat.{ℕ, zero, suc, _-_, min}
 use native.Mathlib.Nat.{zero-min, min-zero, suc-min-suc}

@@ -11,7 +11,6 @@ use text::numeral::literal;
 use text::part::within_words;
 use text::string::byte_string;
 ghost use mathlib.Core.Path.{_≡_};
-ghost use lib.ListN.{length};
 ghost use Rattle.requests.specs.Fields.{most, numberAt, fieldAt, lineAfter, wordsAfter, listOf, wordsOf};
 
 // The most that a field's number may be: a room is at most what there is.

@@ -1,5 +1,5 @@
 //! A request: which form a line has, and what its fields say.
-pub mod fields;
-pub mod form;
+mod fields;
+mod form;
 pub mod limits;
 pub mod request;
