@@ -15,6 +15,7 @@ mod packs_at_random;
 mod peek;
 pub mod print;
 mod read;
+mod short;
 mod special;
 mod usable;
 mod widen;

@@ -19,7 +19,8 @@ const EDGES: [u8; 12] = [
 fn case(bytes: &[u8]) -> Case {
     let answer = match read_ber_oid(bytes) {
         Ok((value, left)) => format!("oid {value} {}", left.len()),
-        Err(_) => "refused 1".to_string(),
+        // with document 02's two numbers
+        Err(_) => "refused 1 0 0".to_string(),
     };
     Case {
         request: format!("oid {}", hex(bytes)),

@@ -114,7 +114,7 @@ fn vector(random: &mut Random, slots: usize) -> Vec<u8> {
 }
 
 // How many of the first so many bits are set.
-fn ones(vector: &[u8], slots: usize) -> usize {
+pub fn ones(vector: &[u8], slots: usize) -> usize {
     let is_set = |slot: &usize| vector[slot / 8] >> (7 - slot % 8) & 1 == 1;
     (0..slots).filter(is_set).count()
 }

@@ -82,6 +82,27 @@ pub fn every_control() -> Vec<Vec<u8>> {
     packs
 }
 
+// Cut at every byte, so that each element is short by each of its lengths.
+pub fn every_cut() -> Vec<Vec<u8>> {
+    let mut random = Random::new(3);
+    let mut packs = Vec::new();
+    for n in [2, 3, 5, 9] {
+        for (cf, clen, slen) in [
+            (true, 1, 4),
+            (true, 3, 8),
+            (true, 8, 4),
+            (false, 4, 4),
+            (true, 9, 8),
+        ] {
+            for cs in [false, true] {
+                let whole = pack(&mut random, n, 0, Control::of(cs, cf, clen, slen)).bytes;
+                packs.extend((0..whole.len()).map(|length| whole[..length].to_vec()));
+            }
+        }
+    }
+    packs
+}
+
 // Sizes up to the largest and beyond.
 pub fn every_size() -> Vec<Vec<u8>> {
     of_sizes(1, &[3, 9, 17, 64, 255, 256, 257, (1 << 32) - 1])

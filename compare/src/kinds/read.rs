@@ -1,8 +1,9 @@
 //! `read DROOM CROOM PROOM HEX`: a whole pack, by the Rust's `decode_sdcc_flp`.
 use super::packs::{pack, slots, Control};
-use super::packs_at_limits::{documented, every_control, every_short, every_size};
+use super::packs_at_limits::{documented, every_control, every_cut, every_short, every_size};
 use super::packs_at_limits::{longest, of_long_codes, padded};
 use super::packs_at_random::made;
+use super::short::numbers;
 use super::widen::wide_nan;
 use super::{hex, Case, Kind};
 use crate::error::KlvFieldError;
@@ -27,8 +28,8 @@ pub(super) const SMALL: Rooms = [9, 40, 40];
 
 pub(super) fn answer(rooms: Rooms, bytes: &[u8]) -> String {
     match decode_sdcc_flp(bytes) {
-        Ok(read) => short(&read, rooms).unwrap_or_else(|| lines(bytes, &read)),
-        Err(error) => refused(error),
+        Ok(read) => no_room(&read, rooms).unwrap_or_else(|| lines(bytes, &read)),
+        Err(error) => refused(error, bytes),
     }
 }
 
@@ -40,9 +41,12 @@ pub(super) fn case(rooms: Rooms, bytes: &[u8]) -> Case {
     }
 }
 
-fn refused(error: KlvFieldError) -> String {
+fn refused(error: KlvFieldError, bytes: &[u8]) -> String {
     match error {
-        KlvFieldError::TruncatedField { .. } => "refused 1".to_string(),
+        KlvFieldError::TruncatedField { .. } => {
+            let [needed, got] = numbers(bytes);
+            format!("refused 1 {needed} {got}")
+        }
         KlvFieldError::InvalidLength { expected, got, .. } => {
             format!("refused 2 {expected} {got}")
         }
@@ -56,7 +60,7 @@ fn refused(error: KlvFieldError) -> String {
 }
 
 // Rule l), which the Rust has no need of: it allocates.
-fn short(read: &SdccFlp, rooms: Rooms) -> Option<String> {
+fn no_room(read: &SdccFlp, rooms: Rooms) -> Option<String> {
     let slots = read.correlations.len();
     let needed = [read.std_devs.len(), slots, slots];
     let mut lent = needed.into_iter().zip(rooms);
@@ -150,7 +154,13 @@ fn every_room() -> Vec<Case> {
 
 fn limits() -> Vec<Case> {
     let mut cases = every_room();
-    for small in [every_short(), documented(), padded(), every_control()] {
+    for small in [
+        every_short(),
+        documented(),
+        padded(),
+        every_control(),
+        every_cut(),
+    ] {
         cases.extend(small.iter().map(|bytes| case(SMALL, bytes)));
     }
     let long = [of_long_codes(), vec![longest()]];

@@ -6,7 +6,7 @@ use mathlib.Core.List.{List, [], _∷_}
 use mathlib.Core.Logic.{inl, inr}
 use Prim.Native.Nat.{ℕ}
 use lib.Dec.{eqb}
-use Rattle.answers.specs.Table.{Entry, bits64, Answer, answer, wholes, pick, next}
+use Rattle.answers.specs.Table.{Entry, bits64, Answer, answer, short, wholes, pick, next}
 use Rattle.answers.specs.Listed.{InTable}
 use Rattle.answers.specs.declared.Refusal.the-variants.{
   TruncatedField,
@@ -22,8 +22,8 @@ use Rattle.answers.specs.declared.Refusal.the-variants.{
 pub in-done : (es : List Entry) → InTable (answer 0 es)
 in-done es = inl refl
 
-pub in-1 : InTable (answer 1 [])
-in-1 = inr (TruncatedField, refl)
+pub in-1 : (needed got : ℕ) → InTable (short needed got)
+in-1 needed got = inr (TruncatedField needed got, refl)
 
 pub in-2 : (expected got : ℕ) → InTable (answer 2 (wholes (expected ∷ got ∷ [])))
 in-2 expected got = inr (InvalidLength expected got, refl)

@@ -17,10 +17,10 @@ use Rattle.answers.specs.declared.Check.{Check}
 use Rattle.answers.specs.declared.Check.the-variants as check
 use Rattle.answers.specs.declared.Written.{Written}
 use Rattle.answers.specs.declared.Written.the-variants.{Done, Refused}
-use Rattle.answers.specs.Table.{Answer, answer, passes, bits64, wholes}
+use Rattle.answers.specs.Table.{Answer, answer, short, passes, bits64, wholes}
 
 abbrev pub listed : Refusal → Answer
-listed TruncatedField = answer 1 []
+listed (TruncatedField needed got) = short needed got
 listed (InvalidLength expected got) = answer 2 (wholes (expected ∷ got ∷ []))
 listed (OutOfRange value least most) = answer 3 (wholes (value ∷ least ∷ most ∷ []))
 listed (CorrelationOutOfRange value least most) = answer 3 (bits64 value ∷ bits64 least ∷ bits64 most ∷ [])

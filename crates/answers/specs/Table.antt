@@ -20,6 +20,10 @@ abbrev pub wholes : List ℕ → List Entry
 wholes [] = []
 wholes (n ∷ ns) = whole n ∷ wholes ns
 
+-- 1, with the bytes needed and the bytes there
+abbrev pub short : ℕ → ℕ → Answer
+short needed got = answer 1 (wholes (needed ∷ got ∷ []))
+
 -- the numbers that entries of either kind carry
 abbrev pub plain : Entry → ℕ
 plain (whole n) = n

@@ -3,8 +3,8 @@ pub mod row;
 
 // Rows 1 to 7, in the table's order. A binary64 is carried as its bits, so that a refused NaN comes back bit for bit.
 pub enum Refusal {
-    // 1
-    TruncatedField,
+    // 1, of bytes
+    TruncatedField { needed: usize, got: usize },
     // 2
     InvalidLength { expected: usize, got: usize },
     // 3, of whole numbers: a count, a size or a payload

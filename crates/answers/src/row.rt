@@ -16,7 +16,7 @@ pub fn row_of(refusal: Refusal) -> Row
     ensures { λ r. ⌜ r ≡ rowOf refusal ⌝ }
 {
     match refusal {
-        Refusal::TruncatedField => whole_row(1, 0, [0, 0, 0]),
+        Refusal::TruncatedField { needed, got } => whole_row(1, 2, [needed as u64, got as u64, 0]),
         Refusal::InvalidLength { expected, got } => whole_row(
             2,
             2,

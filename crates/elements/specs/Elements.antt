@@ -16,7 +16,7 @@ use Rattle.layout.specs.declared.control.ParseControl.{ParseControl}
 use Rattle.layout.specs.Control.{isSet}
 use Rattle.elements.specs.declared.head.Head.{Head}
 use Rattle.elements.specs.declared.head.Places.{Places}
-use Rattle.layout.specs.Triangle.{slotsOf}
+use Rattle.layout.specs.Triangle.{slotsOf, bitBytes}
 use Rattle.layout.specs.Size.{matrixSize, controlOf, bodyAt}
 
 -- `size` bytes from `at` on
@@ -47,7 +47,7 @@ headOf bytes = record { n = matrixSize bytes; control = controlOf bytes; body = 
 module _ (h : Head) where
   -- element 3: ceil(M/8) bytes if CS=1
   abbrev pub vectorLength : ℕ
-  vectorLength = pick (h .control .cs) ((slotsOf (h .n) + 7) / 8) 0
+  vectorLength = pick (h .control .cs) (bitBytes (slotsOf (h .n))) 0
 
   -- element 4: N deviations, or none for Slen=0
   abbrev pub deviationsAt : ℕ

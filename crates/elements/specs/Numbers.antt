@@ -3,7 +3,7 @@ use Prim.Native.Nat.{ℕ, _-_}
 use mathlib.Core.List.{List, [], _∷_}
 use lib.Dec.{eqb, ltb}
 use lib.ListN.{length}
-use Rattle.answers.specs.Table.{Answer, answer, wholes, pick, passes}
+use Rattle.answers.specs.Table.{Answer, answer, short, wholes, pick, passes}
 use Rattle.answers.specs.Listed.{listed}
 use Rattle.imapb.specs.Tables.{Reading, reads}
 use Rattle.imapb.specs.Tables as imapb
@@ -26,11 +26,14 @@ abbrev pub refusalOf : Read → Answer
 refusalOf (bits b) = passes
 refusalOf (refused a) = a
 
--- fewer than `size` bytes left: 1; then the format's refusal; then the number
+-- fewer than `size` bytes left: 1 with `size` and what is left; then the format's refusal
+abbrev pub elementRule : List ℕ → ℕ → ℕ → Answer → Answer
+elementRule bytes at size format = pick (ltb (length bytes - at) size) (short size (length bytes - at)) format
+
+-- and then the number
 abbrev pub element : List ℕ → ℕ → ℕ → Answer → ℕ → Read
 element bytes at size format value =
-    pick (ltb (length bytes - at) size) (refused (answer 1 []))
-    (pick (eqb (format .number) 0) (bits value) (refused format))
+    pick (eqb (elementRule bytes at size format .number) 0) (bits value) (refused (elementRule bytes at size format))
 
 -- an IEEE number of 4 or 8 bytes
 abbrev pub ieeeNumber : List ℕ → ℕ → ℕ → Read

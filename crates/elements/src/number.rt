@@ -46,8 +46,12 @@ pub fn left(bytes: &[u8], at: usize) -> usize
 fn ieee_at(bytes: &[u8], at: usize, size: usize) -> Number
     ensures { λ r. ⌜ numberListed r ≡ ieeeNumber (now (bytes .entry)) at size ⌝ }
 {
-    if left(bytes, at) < size {
-        return Number::Refused(Refusal::TruncatedField);
+    let there = left(bytes, at);
+    if there < size {
+        return Number::Refused(Refusal::TruncatedField {
+            needed: size,
+            got: there,
+        });
     }
     if size == 4 {
         let end = at + 4;
@@ -70,8 +74,12 @@ pub fn deviation_at(bytes: &[u8], at: usize, control: ParseControl) -> Number
     let slen = control.slen as usize;
     // the range of a mapped deviation is in no pack
     if control.sf {
-        if left(bytes, at) < slen {
-            return Number::Refused(Refusal::TruncatedField);
+        let there = left(bytes, at);
+        if there < slen {
+            return Number::Refused(Refusal::TruncatedField {
+                needed: slen,
+                got: there,
+            });
         }
         return Number::Refused(Refusal::InvalidLength {
             expected: 0,
@@ -114,8 +122,12 @@ pub fn correlation_at(bytes: &[u8], at: usize, control: ParseControl) -> Number
     if !control.cf {
         return ieee_at(bytes, at, clen);
     }
-    if left(bytes, at) < clen {
-        return Number::Refused(Refusal::TruncatedField);
+    let there = left(bytes, at);
+    if there < clen {
+        return Number::Refused(Refusal::TruncatedField {
+            needed: clen,
+            got: there,
+        });
     }
     // with no byte to read, `at` may lie past the end
     if clen < 1 {

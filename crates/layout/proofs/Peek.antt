@@ -1,22 +1,29 @@
 -- Peek gives N exactly where rules a) to g) pass; and what a header that was read tells.
 -- Assumes nothing.
-use mathlib.Core.Path.{_≡_, refl}
+use mathlib.Core.Path.{_≡_, refl, sym, ap}
 use mathlib.Core.Bool.{false}
-use mathlib.Core.List.{List}
+use mathlib.Core.List.{List, [], _∷_}
 use mathlib.Core.Logic.{_↔_}
 use Prim.Native.Nat.{ℕ, _-_, _≤_}
 use native.Mathlib.Omega.{arith}
-use lib.Dec.{eqb}
+use denote.Enum.Declared.{tagOf}
+use lib.Dec.{eqb, ltb}
 use lib.ListN.{length}
+use types.Run.{OneOf, miss}
 use borrow.Author.Tests.{eqb-true, ltb-false}
 use Rattle.answers.specs.Table.{passes}
 use Rattle.answers.proofs.Rules.{picked}
+use Rattle.numbers.specs.declared.ber_oid.BerOid.{BerOid}
+use Rattle.numbers.specs.declared.ber_oid.BerOid.the-variants as oid
+use Rattle.numbers.specs.BerOid.{oidRead}
 use Rattle.layout.specs.declared.control.ParseControl.{ParseControl}
-use Rattle.layout.specs.declared.header.Header.the-variants.{Open, Short}
+use Rattle.layout.specs.declared.header.Header.{Header}
+use Rattle.layout.specs.declared.header.Header.the-variants.{Open, Unreadable, Short}
 use Rattle.layout.specs.declared.size.Peek.the-variants.{Size, Nothing}
-use Rattle.layout.specs.Size.{matrixSize, controlOf, bodyAt, headRules, sizeRules, fitRules}
-use Rattle.layout.specs.Listed.{headerOf, peeked}
+use Rattle.layout.specs.Size.{matrixSize, controlOf, bodyAt, headerBehind, headerOf, headRule, headRules, sizeRules, fitRules}
+use Rattle.layout.specs.Listed.{peeked}
 use Rattle.answers.proofs.Next.{Says, IsRule, rules, next-passed}
+use Rattle.layout.proofs.header.Header.{the-type}
 
 -- a rule whose number is 0 passes
 pub size-rule : (n R : ℕ) (k : ParseControl) → IsRule (sizeRules n R k)
@@ -38,7 +45,13 @@ peek-nothing bytes e z = let o : _≡_ {A = ℕ} 0 1 = cc (peek-size bytes (matr
 
 -- where a) and b) pass the control lies within the bytes
 pub head-tells : (bytes : List ℕ) → Says (λ _. bodyAt bytes ≤ length bytes) (headRules bytes)
-head-tells bytes = search (rules, ltb-false)
+head-tells bytes = record { done = go (oidRead bytes) }
+  where
+    go : (r : BerOid) → headRule (headerBehind bytes r) .number ≡ 0 → bodyAt bytes ≤ length bytes
+    go oid.Unreadable z = absurd (omega arith)
+    go (oid.Read n taken) z =
+        picked (λ h. headRule h .number ≡ 0 → bodyAt bytes ≤ length bytes) _ _ _
+        (λ _ z. absurd (omega arith)) (λ f _. ltb-false (length bytes) (bodyAt bytes) f) z
 
 -- what a header that was read tells
 pub record Opened (bytes : List ℕ) (n : ℕ) (k : ParseControl) (b : ℕ) : Type 0 where
@@ -49,10 +62,17 @@ pub record Opened (bytes : List ℕ) (n : ℕ) (k : ParseControl) (b : ℕ) : Ty
 
 module _ (bytes : List ℕ) {n : ℕ} {k : ParseControl} {b : ℕ} (o : Open n k b ≡ headerOf bytes) where
   pub opened : Opened bytes n k b
-  opened =
-      picked (λ h. Open n k b ≡ h → Opened bytes n k b) _ _ _
-      (λ t e. record { passed = eqb-true _ 0 t; size = cc; control = cc; body = cc })
-      (λ _ e. let z : _≡_ {A = ℕ} 0 1 = cc in absurd (omega arith)) o
+  opened = go (oidRead bytes) o
+    where
+      passed : headRules bytes .number ≡ 0
+      passed = ap (λ (h : Header). headRule h .number) (sym o)
+
+      go : (r : BerOid) → Open n k b ≡ headerBehind bytes r → Opened bytes n k b
+      go oid.Unreadable e = let z : _≡_ {A = ℕ} 0 1 = cc in absurd (omega arith)
+      go (oid.Read m taken) e =
+          picked (λ h. Open n k b ≡ h → Opened bytes n k b) (ltb (length bytes) (bodyAt bytes)) Short (Open (matrixSize bytes) (controlOf bytes) (bodyAt bytes))
+          (λ _ e. let z : _≡_ {A = ℕ} 0 1 = cc in absurd (omega arith))
+          (λ _ e. record { passed = passed; size = cc; control = cc; body = cc }) e
 
   pub body-within : b ≤ length bytes
   body-within = rw (opened .body) (head-tells bytes .done (opened .passed))
@@ -62,7 +82,7 @@ module _ (bytes : List ℕ) {n : ℕ} {k : ParseControl} {b : ℕ} (o : Open n k
   fit-is = rw (opened .size, opened .control, opened .body) (next-passed (headRules bytes) _ (opened .passed))
 
 -- and one that was not read
-pub short-is : (bytes : List ℕ) → Short ≡ headerOf bytes → eqb (headRules bytes .number) 0 ≡ false
-short-is bytes =
-    picked (λ h. Short ≡ h → eqb (headRules bytes .number) 0 ≡ false) _ _ _
-    (λ _ e. let z : _≡_ {A = ℕ} 0 1 = cc in absurd (omega arith)) (λ f _. f)
+pub not-open : (h : Header) → OneOf (1 ∷ 2 ∷ []) (tagOf the-type h) → eqb (headRule h .number) 0 ≡ false
+not-open (Open n k b) t = absurd (miss (1 ∷ 2 ∷ []) 0 tt t)
+not-open Unreadable t = refl
+not-open Short t = refl

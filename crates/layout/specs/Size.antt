@@ -4,11 +4,15 @@ use mathlib.Core.Bool.{Bool, not, _&&_}
 use mathlib.Core.List.{List, [], _∷_}
 use lib.Dec.{eqb, leb, ltb}
 use lib.ListN.{length, getD}
-use Rattle.answers.specs.Table.{Answer, answer, wholes, pick, passes, next}
+use Rattle.answers.specs.Table.{Answer, answer, short, wholes, pick, passes, next}
+use Rattle.numbers.specs.declared.ber_oid.BerOid.{BerOid}
+use Rattle.numbers.specs.declared.ber_oid.BerOid.the-variants as oid
 use Rattle.numbers.specs.BerOid.{continued, oidValue, oidRead}
 use Rattle.layout.specs.declared.control.ParseControl.{ParseControl}
+use Rattle.layout.specs.declared.header.Header.{Header}
+use Rattle.layout.specs.declared.header.Header.the-variants.{Open, Unreadable, Short}
 use Rattle.layout.specs.Control.{mode1, mode2}
-use Rattle.layout.specs.Triangle.{slotsOf}
+use Rattle.layout.specs.Triangle.{slotsOf, bitBytes}
 
 -- the limits of the pack type
 abbrev pub maxRows : ℕ
@@ -37,20 +41,37 @@ controlOf bytes =
 abbrev pub bodyAt : List ℕ → ℕ
 bodyAt bytes = controlAt bytes + pick (isMode2 bytes) 2 1
 
--- a) N unreadable: 1. b) Parse Control short: 1
-abbrev pub headRules : List ℕ → Answer
-headRules bytes =
-    next (pick (eqb (oidRead bytes .number) 0) passes (answer 1 []))
-    (pick (ltb (length bytes) (bodyAt bytes)) (answer 1 []) passes)
+-- what the two say, where N is readable and the control is not short
+abbrev pub headerBehind : List ℕ → BerOid → Header
+headerBehind bytes oid.Unreadable = Unreadable
+headerBehind bytes (oid.Read n taken) =
+    pick (ltb (length bytes) (bodyAt bytes)) Short (Open (matrixSize bytes) (controlOf bytes) (bodyAt bytes))
 
--- c) to g), R being the bytes after Parse Control
+abbrev pub headerOf : List ℕ → Header
+headerOf bytes = headerBehind bytes (oidRead bytes)
+
+-- a) N unreadable: 1 with 0, 0
+-- b) Parse Control short: 1 with 1, 0
+abbrev pub headRule : Header → Answer
+headRule Unreadable = short 0 0
+headRule Short = short 1 0
+headRule (Open n control body) = passes
+
+abbrev pub headRules : List ℕ → Answer
+headRules bytes = headRule (headerOf bytes)
+
+-- R being the bytes after Parse Control, c) Slen=Clen=0: 2 with 0, 0
+-- d) N>256: 3 with N, 0, 256
+-- e) N·Slen>R: 1 with N·Slen, R
+-- f) CS=0 and M·Clen>R: 1 with M·Clen, R
+-- g) CS=1 and M>8R: 1 with ceil(M/8), R
 abbrev pub sizeRules : ℕ → ℕ → ParseControl → Answer
 sizeRules n R c =
     pick (eqb (c .slen) 0 && eqb (c .clen) 0) (answer 2 (wholes (0 ∷ 0 ∷ [])))
     (pick (ltb maxRows n) (answer 3 (wholes (n ∷ 0 ∷ maxRows ∷ [])))
-    (pick (ltb R (n * c .slen)) (answer 1 [])
-    (pick (not (c .cs) && ltb R (slotsOf n * c .clen)) (answer 1 [])
-    (pick (c .cs && ltb (8 * R) (slotsOf n)) (answer 1 [])
+    (pick (ltb R (n * c .slen)) (short (n * c .slen) R)
+    (pick (not (c .cs) && ltb R (slotsOf n * c .clen)) (short (slotsOf n * c .clen) R)
+    (pick (c .cs && ltb (8 * R) (slotsOf n)) (short (bitBytes (slotsOf n)) R)
     passes))))
 
 -- a) to g)

@@ -11,6 +11,10 @@ use Rattle.layout.specs.declared.triangle.TriangleSlot.the-variants.{At,
 unfoldable pub slotsOf : ℕ → ℕ
 slotsOf n = n * (n - 1) / 2
 
+-- the bytes of M bits: ceil(M/8)
+abbrev pub bitBytes : ℕ → ℕ
+bitBytes M = (M + 7) / 8
+
 -- the slot of (i,j), i<j
 unfoldable pub slotOf : ℕ → ℕ → ℕ → ℕ
 slotOf n i j = i * (2 * n - i - 1) / 2 + (j - i - 1)

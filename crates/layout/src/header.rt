@@ -5,25 +5,27 @@ use crate::control::parse_mode2;
 use numbers::ber_oid::BerOid;
 use numbers::ber_oid::read_ber_oid;
 ghost use mathlib.Core.Path.{_≡_};
-ghost use mathlib.Core.List.{[], _∷_};
-ghost use Rattle.answers.specs.Table.{answer, wholes};
+ghost use Rattle.numbers.specs.declared.ber_oid.BerOid.the-variants.{Read};
 ghost use Rattle.numbers.specs.BerOid.{oidRead};
-ghost use Rattle.layout.specs.Listed.{headerOf};
+ghost use Rattle.layout.specs.Size.{headerOf};
 
-// What the first two elements say, and where the third starts; or that they are not whole.
+// What the first two elements say, and where the third starts; or which of rules a) and b) refuses them.
 pub enum Header {
     Open {
         n: u32,
         control: ParseControl,
         body: usize,
     },
+    // a) N
+    Unreadable,
+    // b) Parse Control
     Short,
 }
 
 // Rule b), behind N, which took so many bytes. Apart from N's own reading, so that a caller who needs less of the
 // control works out less of it.
 pub(crate) fn header_behind(bytes: &[u8], n: u32, taken: usize) -> Header
-    requires { ⌜ answer 0 (wholes (n ∷ taken ∷ [])) ≡ oidRead (now bytes) ⌝ }
+    requires { ⌜ Read n taken ≡ oidRead (now bytes) ⌝ }
     ensures { λ r. ⌜ r ≡ headerOf (now (bytes .entry)) ⌝ }
 {
     if bytes.len() <= taken {
@@ -53,7 +55,7 @@ pub fn read_header(bytes: &[u8]) -> Header
 {
     let oid = read_ber_oid(bytes);
     let BerOid::Read { value, taken } = oid else {
-        return Header::Short;
+        return Header::Unreadable;
     };
     header_behind(bytes, value, taken)
 }

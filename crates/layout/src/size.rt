@@ -9,9 +9,8 @@ use answers::Refusal;
 use numbers::ber_oid::BerOid;
 use numbers::ber_oid::read_ber_oid;
 ghost use mathlib.Core.Path.{_≡_};
-ghost use mathlib.Core.List.{[]};
 ghost use lib.Dec.{ltb};
-ghost use Rattle.answers.specs.Table.{answer, pick, passes};
+ghost use Rattle.answers.specs.Table.{short, pick, passes};
 ghost use Rattle.answers.specs.Listed.{checked};
 ghost use Rattle.layout.specs.Size.{sizeRules};
 ghost use Rattle.layout.specs.Listed.{peeked};
@@ -23,11 +22,11 @@ pub enum Peek {
 }
 
 // Whether so many bytes are left.
-fn held(left: u64, needed: u64) -> Check
-    ensures { λ r. ⌜ checked r ≡ pick (ltb left needed) (answer 1 []) passes ⌝ }
+fn held(needed: usize, left: usize) -> Check
+    ensures { λ r. ⌜ checked r ≡ pick (ltb left needed) (short needed left) passes ⌝ }
 {
     if left < needed {
-        Check::Refused(Refusal::TruncatedField)
+        Check::Refused(Refusal::TruncatedField { needed, got: left })
     } else {
         Check::Passes
     }
@@ -37,10 +36,9 @@ fn held(left: u64, needed: u64) -> Check
 pub fn check_matrix_size_fits(n: u32, remaining: usize, control: ParseControl) -> Check
     ensures { λ r. ⌜ checked r ≡ sizeRules n remaining control ⌝ }
 {
-    let left = remaining as u64;
     let rows = n as u64;
-    let slen = control.slen as u64;
-    let clen = control.clen as u64;
+    let slen = control.slen as usize;
+    let clen = control.clen as usize;
     if slen + clen == 0 {
         return Check::Refused(Refusal::InvalidLength {
             expected: 0,
@@ -54,14 +52,15 @@ pub fn check_matrix_size_fits(n: u32, remaining: usize, control: ParseControl) -
             most: SdccFlp::MAX_ROWS,
         });
     }
-    if left < rows * slen {
-        return Check::Refused(Refusal::TruncatedField);
-    }
-    let slots = corr_slots(n);
+    let deviations = held(n as usize * slen, remaining);
+    let Check::Passes = deviations else {
+        return deviations;
+    };
+    let slots = corr_slots(n) as usize;
     if control.cs {
-        return held(left, (slots + 7) / 8);
+        return held((slots + 7) / 8, remaining);
     }
-    held(left, slots * clen)
+    held(slots * clen, remaining)
 }
 
 // N, where rules a) to g) pass. It costs the same for any pack.

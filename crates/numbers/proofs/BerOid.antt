@@ -12,9 +12,9 @@ use lib.ListN.{length, drop, set, getD, length-append}
 use lib.Seq.{drop-cons, append-snoc, take-at}
 use borrow.Author.Needs.{needs}
 use borrow.Author.Tests.{ltb-true, ltb-false, leb-true, le-leb, lt-leb, lt-ltb}
-use Rattle.answers.specs.Table.{Answer, answer, wholes}
 use Rattle.answers.specs.Lent.{over}
 use Rattle.answers.proofs.Rules.{picked}
+use Rattle.numbers.specs.declared.ber_oid.BerOid.the-variants.{Read, Unreadable}
 use Rattle.numbers.specs.Digits.{spelt, digits}
 use Rattle.numbers.specs.BerOid.{continued, oidValue, oidRead, oidLength, oidBytes}
 use Rattle.numbers.proofs.Digits.{drop-set, length-digits, spelt-append, spelt-digits}
@@ -29,7 +29,7 @@ module _ (l : List ℕ) (i : ℕ) (h : i < length l) (e : continued l ≡ i + co
 
 -- a number at the front of the bytes
 pub read-is : (bytes : List ℕ) {k : ℕ} → suc (continued bytes) ≡ k → k ≤ 6 → k ≤ length bytes → oidValue k bytes < 2 ^ 32
-    → oidRead bytes ≡ answer 0 (wholes (oidValue k bytes ∷ k ∷ []))
+    → oidRead bytes ≡ Read (oidValue k bytes) k
 unfolding oidRead
 read-is bytes {k} e a b h = rw (e, le-leb k 6 a, le-leb k (length bytes) b, lt-ltb (oidValue k bytes) (2 ^ 32) h)
 
@@ -43,22 +43,21 @@ passed bytes k t =
 
 -- no number there
 pub none-is : (bytes : List ℕ) → (suc (continued bytes) ≤ 6 → continued bytes < length bytes → oidValue (suc (continued bytes)) bytes < 2 ^ 32 → ⊥)
-    → oidRead bytes ≡ answer 1 []
+    → oidRead bytes ≡ Unreadable
 unfolding oidRead
 none-is bytes never =
-    picked (λ a. a ≡ answer 1 []) _ _ _ (λ t. let p = passed bytes (suc (continued bytes)) t in absurd (never (p .0) (p .1) (p .2))) (λ _. refl)
+    picked (λ r. r ≡ Unreadable) _ _ _ (λ t. let p = passed bytes (suc (continued bytes)) t in absurd (never (p .0) (p .1) (p .2))) (λ _. refl)
 
 -- what a number that was read tells
-pub read-tells : (bytes : List ℕ) {v k : ℕ} → answer 0 (wholes (v ∷ k ∷ [])) ≡ oidRead bytes
+pub read-tells : (bytes : List ℕ) {v k : ℕ} → Read v k ≡ oidRead bytes
     → (k ≡ suc (continued bytes)) × (v ≡ oidValue k bytes) × (k ≤ length bytes)
 unfolding oidRead
 read-tells bytes {v} {k} =
-    picked (λ a. answer 0 (wholes (v ∷ k ∷ [])) ≡ a → (k ≡ suc (continued bytes)) × (v ≡ oidValue k bytes) × (k ≤ length bytes)) _ _ _
+    picked (λ r. Read v k ≡ r → (k ≡ suc (continued bytes)) × (v ≡ oidValue k bytes) × (k ≤ length bytes)) _ _ _
     (λ t e.
-    let c = ap (λ (a : Answer). a .carries) e in
     let h : k ≡ suc (continued bytes) = cc in
     (h, (cc), rw h (passed bytes (suc (continued bytes)) t .1)))
-    (λ _ e. let z = ap (λ (a : Answer). a .number) e in absurd (omega arith))
+    (λ _ e. let z : _≡_ {A = ℕ} 0 1 = cc in absurd (omega arith))
 
 continued-digits : (j n : ℕ) (l : List ℕ) → continued (digits 128 1 j n ++ l) ≡ j + continued l
 continued-digits zero n l = sym (zero-add (continued l))
@@ -119,7 +118,7 @@ module _ (v : ℕ) (small : v < 2 ^ 32) where
       rw (spelt-append, spelt-digits 128 (omega arith) 0 1 (oidLength v - 1) (v / 128), mod-eq-of-lt high) (omega arith)
 
   -- what is written is read, whatever follows
-  pub round-trip : (rest : List ℕ) → oidRead (oidBytes v ++ rest) ≡ answer 0 (wholes (v ∷ oidLength v ∷ []))
+  pub round-trip : (rest : List ℕ) → oidRead (oidBytes v ++ rest) ≡ Read v (oidLength v)
   round-trip rest =
       let value : oidValue (oidLength v) (oidBytes v ++ rest) ≡ v = rw (take-at (oidBytes v) rest (oidLength v) length-oid) spelt-oid in
       rw value at
@@ -129,22 +128,22 @@ module _ (v : ℕ) (small : v < 2 ^ 32) where
 abbrev Two : List ℕ
 Two = 0x80 ∷ 0x80 ∷ 0x80 ∷ 0x80 ∷ 0x80 ∷ 0x02 ∷ []
 
-six-bytes : oidRead Two ≡ answer 0 (wholes (2 ∷ 6 ∷ []))
+six-bytes : oidRead Two ≡ Read 2 6
 unfolding oidRead
 six-bytes = refl
 
-seven-bytes : oidRead (0x80 ∷ Two) ≡ answer 1 []
+seven-bytes : oidRead (0x80 ∷ Two) ≡ Unreadable
 unfolding oidRead
 seven-bytes = refl
 
-too-large : oidRead (0x90 ∷ 0x80 ∷ 0x80 ∷ 0x80 ∷ 0x00 ∷ []) ≡ answer 1 []
+too-large : oidRead (0x90 ∷ 0x80 ∷ 0x80 ∷ 0x80 ∷ 0x00 ∷ []) ≡ Unreadable
 unfolding oidRead
 too-large = refl
 
-no-byte : oidRead [] ≡ answer 1 []
+no-byte : oidRead [] ≡ Unreadable
 unfolding oidRead
 no-byte = refl
 
-largest : oidRead (0x8f ∷ 0xff ∷ 0xff ∷ 0xff ∷ 0x7f ∷ []) ≡ answer 0 (wholes (4294967295 ∷ 5 ∷ []))
+largest : oidRead (0x8f ∷ 0xff ∷ 0xff ∷ 0xff ∷ 0x7f ∷ []) ≡ Read 4294967295 5
 unfolding oidRead
 largest = refl

@@ -1,15 +1,11 @@
 -- No second answer meets a contract: two that do are the same, with what they leave in lent memory.
 -- Assumes nothing.
-use mathlib.Core.Path.{_≡_, refl, sym, ap, _∙_}
-use native.Mathlib.Omega.{arith}
+use mathlib.Core.Path.{refl, sym, _∙_}
 use denote.Ref.{now}
 use Rattle.answers.specs.OneAnswer.{OneResult, OneAnswer}
 use Rattle.answers.specs.Lent.{leaves}
-use Rattle.answers.specs.Table.{Answer}
 use Rattle.answers.proofs.OneToOne.{writer-one}
-use Rattle.numbers.specs.declared.ber_oid.BerOid.{BerOid}
-use Rattle.numbers.specs.declared.ber_oid.BerOid.the-variants.{Read, Unreadable}
-use Rattle.numbers.specs.BerOid.{oidListed, oidBytes}
+use Rattle.numbers.specs.BerOid.{oidBytes}
 use Rattle.numbers.proofs.words.read_be.Reads as read-be
 use Rattle.numbers.proofs.words.write_be.Reads as write-be
 use Rattle.numbers.proofs.ber_oid.read_ber_oid.Reads as read-ber-oid
@@ -26,15 +22,8 @@ read-be-one κs a r r′ s s′ p q = p ∙ sym q
 pub ber-oid-len-one : OneResult ber-oid-len.Learnt
 ber-oid-len-one κs a r r′ s s′ p q = p ∙ sym q
 
--- what determines the listed answer determines the enum
-oid-one : (r r′ : BerOid) → oidListed r ≡ oidListed r′ → r ≡ r′
-oid-one (Read v n) (Read w m) e = let c = ap (λ (a : Answer). a .carries) e in cc
-oid-one (Read v n) Unreadable e = let c = ap (λ (a : Answer). a .number) e in absurd (omega arith)
-oid-one Unreadable (Read w m) e = let c = ap (λ (a : Answer). a .number) e in absurd (omega arith)
-oid-one Unreadable Unreadable e = refl
-
 pub read-ber-oid-one : OneResult read-ber-oid.Learnt
-read-ber-oid-one κs a r r′ s s′ p q = oid-one r r′ (p ∙ sym q)
+read-ber-oid-one κs a r r′ s s′ p q = p ∙ sym q
 
 pub write-be-one : OneAnswer write-be.Learnt (λ κs s. now (s .1 .0))
 write-be-one κs a r r′ s s′ p q = (refl, p ∙ sym q)

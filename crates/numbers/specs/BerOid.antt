@@ -9,11 +9,6 @@ use Rattle.numbers.specs.declared.ber_oid.BerOid.{BerOid}
 use Rattle.numbers.specs.declared.ber_oid.BerOid.the-variants.{Read, Unreadable}
 use Rattle.numbers.specs.Digits.{spelt, digits}
 
--- unreadable is document 01's refusal 1; a number is done, with its value and how many bytes it took
-abbrev pub oidListed : BerOid → Answer
-oidListed (Read value taken) = answer 0 (wholes (value ∷ taken ∷ []))
-oidListed Unreadable = answer 1 []
-
 -- how many bytes at the front have their top bit set
 abbrev pub continued : List ℕ → ℕ
 continued [] = 0
@@ -23,13 +18,12 @@ continued (b ∷ bs) = pick (leb 128 b) (suc (continued bs)) 0
 abbrev pub oidValue : ℕ → List ℕ → ℕ
 oidValue k bytes = spelt 128 0 (take k bytes)
 
--- at most five bytes with the top bit set, then the last; a value of at most 2^32-1
-unfoldable pub oidRead : List ℕ → Answer
+-- at most five bytes with the top bit set, then the last; a value of at most 2^32-1, and how many bytes it took
+unfoldable pub oidRead : List ℕ → BerOid
 oidRead bytes =
     let k = suc (continued bytes) in
     pick (leb k 6 && leb k (length bytes) && ltb (oidValue k bytes) (2 ^ 32))
-    (answer 0 (wholes (oidValue k bytes ∷ k ∷ [])))
-    (answer 1 [])
+    (Read (oidValue k bytes) k) Unreadable
 
 -- the fewest bytes for a value below 2^32
 abbrev pub oidLength : ℕ → ℕ

@@ -5,7 +5,7 @@ ghost use mathlib.Core.Path.{_≡_};
 ghost use lib.ListN.{length};
 ghost use Rattle.answers.specs.Listed.{written};
 ghost use Rattle.answers.specs.Lent.{leaves};
-ghost use Rattle.numbers.specs.BerOid.{oidLength, oidBytes, oidRead, oidWritten, oidListed};
+ghost use Rattle.numbers.specs.BerOid.{oidLength, oidBytes, oidRead, oidWritten};
 
 // A number and how many bytes it took, or none.
 pub enum BerOid {
@@ -15,7 +15,7 @@ pub enum BerOid {
 
 // The number at the front of the bytes.
 pub fn read_ber_oid(bytes: &[u8]) -> BerOid
-    ensures { λ r. ⌜ oidListed r ≡ oidRead (now (bytes .entry)) ⌝ }
+    ensures { λ r. ⌜ r ≡ oidRead (now (bytes .entry)) ⌝ }
 {
     let mut value: u64 = 0;
     let mut taken: usize = 0;

@@ -1,11 +1,12 @@
 -- The form of a pack of N rows and M slots, Z of them 0, by Appendix A of ST 1010.3, and the places of its elements.
-use Prim.Native.Nat.{ℕ, _+_, _-_, _*_, _/_}
+use Prim.Native.Nat.{ℕ, _+_, _-_, _*_}
 use mathlib.Core.Bool.{Bool}
 use mathlib.Core.List.{List}
 use lib.Dec.{ltb}
 use lib.ListN.{length}
 use Rattle.answers.specs.Table.{pick}
 use Rattle.numbers.specs.BerOid.{oidLength}
+use Rattle.layout.specs.Triangle.{bitBytes}
 use Rattle.plan.specs.declared.places.Plan.{Plan}
 use Rattle.plan.specs.Zero.{zerosBefore}
 
@@ -17,7 +18,7 @@ sparseRule M Z L = ltb M (8 * Z * L)
 module _ (sparse : Bool) where
   -- the bytes of element 3
   abbrev pub vectorLength : ℕ → ℕ
-  vectorLength M = pick sparse ((M + 7) / 8) 0
+  vectorLength M = pick sparse (bitBytes M) 0
 
   -- the codes of element 5
   abbrev pub sentCount : ℕ → ℕ → ℕ

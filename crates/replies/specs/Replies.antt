@@ -46,10 +46,10 @@ widenReply bits = oneReply 28 (converted binary32 binary64 (bits % 2 ^ 32))
 abbrev pub narrowReply : ℕ → Reply
 narrowReply bits = oneReply 29 (converted binary64 binary32 bits)
 
--- the value, and how many bytes are left
+-- the value, and how many bytes are left; of one that is unreadable, refusal 1 with 0 and 0
 abbrev pub oidReply : BerOid → ℕ → Reply
 oidReply (Read value taken) count = reply 30 value (count - taken) 0 0
-oidReply Unreadable count = refusedReply TruncatedField
+oidReply Unreadable count = refusedReply (TruncatedField 0 0)
 
 -- ---- a mapped value
 abbrev pub decodedReply : DecodedImapb → Reply

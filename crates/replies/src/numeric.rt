@@ -50,6 +50,6 @@ pub fn of_oid(read: BerOid, count: usize) -> Reply
             c: 0,
             d: 0,
         },
-        BerOid::Unreadable => refused(Refusal::TruncatedField),
+        BerOid::Unreadable => refused(Refusal::TruncatedField { needed: 0, got: 0 }),
     }
 }

@@ -12,6 +12,9 @@ use Rattle.answers.specs.Lent.{joined}
 use Rattle.answers.specs.Table.{Entry, Answer, answer, pick, plains}
 use Rattle.answers.proofs.Joined.{joined-le}
 use Rattle.answers.proofs.Rules.{picked}
+use Rattle.layout.specs.declared.header.Header.{Header}
+use Rattle.layout.specs.declared.header.Header.the-variants.{Open, Unreadable, Short}
+use Rattle.layout.specs.Size.{headRule}
 use Rattle.layout.specs.Triangle.{slotsOf, slotOf}
 use Rattle.layout.proofs.RowByRow.{row-next, row-within, slots-mono}
 use Rattle.reader.specs.Rules.{readAnswer}
@@ -98,10 +101,15 @@ few-answer m es t = record { most = leb→le (length es) 3 t }
 few-pick : (t : Bool) (a b : Answer) → Few a → Few b → Few (pick t a b)
 few-pick t a b p q = picked Few t a b (λ _. p) (λ _. q)
 
+few-head : (h : Header) → Few (headRule h)
+few-head Unreadable = few-answer _ _ tt
+few-head Short = few-answer _ _ tt
+few-head (Open n control body) = few-answer _ _ tt
+
 few-turns : (bytes : List ℕ) (at size : ℕ) (format : Answer) → Few format → (n : ℕ) → Few (inTurn bytes at size format n)
 few-turns bytes at size format f zero = record { most = omega arith }
 few-turns bytes at size format f (suc n) = let q = few-turns bytes at size format f n in search (few-answer, few-pick)
 
 -- and so is the reader's, whatever it is
 pub few-read : (bytes : List ℕ) (ds cs ps : ℕ) → Few (readAnswer bytes ds cs ps)
-few-read bytes ds cs ps = search (few-answer, few-pick, few-turns) depth 20
+few-read bytes ds cs ps = search (few-answer, few-pick, few-head, few-turns) depth 20

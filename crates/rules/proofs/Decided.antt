@@ -10,7 +10,7 @@ use native.Mathlib.Omega.{arith}
 use borrow.Author.Tests.{lt-ltb, le-ltb, ne-eqb}
 use lib.Dec.{eqb}
 use lib.ListN.{length}
-use Rattle.answers.specs.Table.{Answer, answer, wholes, pick, passes}
+use Rattle.answers.specs.Table.{Answer, answer, short, wholes, pick, passes}
 use Rattle.imapb.specs.Tables.{supported}
 use Rattle.layout.specs.declared.control.ParseControl.{ParseControl}
 use Rattle.elements.specs.declared.head.Head.{Head}
@@ -26,13 +26,13 @@ module _ (c : ParseControl) (present left : ℕ) where
   pub codes-all : c .cs ≡ false → passes ≡ codesRule c present left
   codes-all e = rw e
 
-  pub codes-short : c .cs ≡ true → left < present * c .clen → answer 1 [] ≡ codesRule c present left
+  pub codes-short : c .cs ≡ true → left < present * c .clen → short (present * c .clen) left ≡ codesRule c present left
   codes-short e h = rw (e, ne-eqb (c .clen) 0 (λ z. omega (arith, rw (z, mul-zero present) at h)), lt-ltb left (present * c .clen) h)
 
   pub codes-there : c .cs ≡ true → present * c .clen ≤ left → passes ≡ codesRule c present left
   codes-there e h = rw (e, le-ltb left (present * c .clen) h) (go (not (eqb (c .clen) 0)))
     where
-      go : (b : Bool) → passes ≡ pick (b && false) (answer 1 []) passes
+      go : (b : Bool) → passes ≡ pick (b && false) (short (present * c .clen) left) passes
       go true = refl
       go false = refl
 

@@ -1,7 +1,7 @@
 -- What a pack that passes rules h) to k) holds: its elements, whole and in formats that are read.
 -- Assumes nothing.
 use mathlib.Core.Path.{_≡_, refl, ap}
-use mathlib.Core.List.{List, []}
+use mathlib.Core.List.{List}
 use mathlib.Core.Logic.{inl, inr, by-cases}
 use Prim.Native.Nat.{ℕ, zero, suc, _+_, _-_, _*_, _≤_, _<_}
 use native.Mathlib.Nat.{zero-mul, mul-zero, suc-mul, mul-le-mul-right}
@@ -10,7 +10,7 @@ use native.Mathlib.Omega.{arith}
 use borrow.Author.Tests.{eqb-true, eqb-false, ltb-false}
 use lib.Dec.{eqb, ltb}
 use lib.ListN.{length}
-use Rattle.answers.specs.Table.{Answer, answer, pick, passes, next}
+use Rattle.answers.specs.Table.{Answer, short, passes, next}
 use Rattle.answers.proofs.Rules.{picked}
 use Rattle.answers.proofs.Next.{next-zero, Says, rules}
 use Rattle.layout.specs.Size.{maxRows, maxSlots}
@@ -19,6 +19,7 @@ use Rattle.layout.proofs.RowByRow.{few-slots}
 use Rattle.elements.specs.declared.head.Head.{Head}
 use Rattle.elements.specs.Elements.{deviationsAt, deviationCount, codesAt, presentCount}
 use Rattle.elements.specs.Formats.{deviationFormat}
+use Rattle.elements.specs.Numbers.{elementRule}
 use Rattle.elements.specs.Held.{SlotsHeld, Within}
 use Rattle.rules.specs.Rules.{inTurn, ruleH, ruleI, ruleJ, ruleK, codeRules, elementRules, roomRules}
 use Rattle.rules.proofs.InTurn.{Format}
@@ -61,9 +62,9 @@ module _ (bytes : List ℕ) (at size : ℕ) {format : Answer} (f : Format format
       → (at + n * size ≤ length bytes) × (0 < n → format ≡ passes)
   turns-held zero w e = (omega (arith, zero-mul size), λ l. absurd (omega arith))
   turns-held (suc n) w e =
-      picked (λ x. x .number ≡ 0 → (at + suc n * size ≤ length bytes) × (0 < suc n → format ≡ passes)) (ltb (length bytes - (at + n * size)) size) (answer 1 []) format
+      picked (λ x. x .number ≡ 0 → (at + suc n * size ≤ length bytes) × (0 < suc n → format ≡ passes)) (ltb (length bytes - (at + n * size)) size) (short size (length bytes - (at + n * size))) format
       (λ _ z. absurd (omega arith)) (λ t z. (enough n w (ltb-false (length bytes - (at + n * size)) size t), λ _. passed f z))
-      (next-zero (inTurn bytes at size format n) (pick (ltb (length bytes - (at + n * size)) size) (answer 1 []) format) e .1)
+      (next-zero (inTurn bytes at size format n) (elementRule bytes (at + n * size) size format) e .1)
 
 -- ---- rules h) to k)
 pub record Held (bytes : List ℕ) (h : Head) : Type 0 where

@@ -1,20 +1,26 @@
 -- Rules h) and j) by their first element: the others can only lack bytes.
 -- Assumes nothing.
-use mathlib.Core.Path.{_≡_, refl}
+use mathlib.Core.Path.{_≡_, refl, sym, ap, _∙_}
 use mathlib.Core.Bool.{false}
-use mathlib.Core.List.{List, []}
+use mathlib.Core.List.{List}
 use mathlib.Core.Logic.{_⊎_, inl, inr}
-use Prim.Native.Nat.{ℕ, zero, suc, _+_, _-_, _*_, _≤_, _<_}
-use native.Mathlib.Nat.{suc-mul, zero-mul, lt-of-not-le}
+use Prim.Native.Nat.{ℕ, zero, suc, _+_, _-_, _*_, _%_, _≤_, _<_}
+use native.Mathlib.Nat.{add-zero, suc-mul, zero-mul, mul-zero, lt-of-not-le}
 use native.Mathlib.Decide.{decLe}
 use native.Mathlib.Omega.{arith}
 use borrow.Author.Tests.{lt-ltb, le-ltb}
+use lib.Arith.{digits-mod}
 use lib.Dec.{eqb, ltb, eqb·suc-zero}
 use lib.ListN.{length}
-use Rattle.answers.specs.Table.{Answer, answer, pick, passes, next}
+use Rattle.answers.specs.Table.{Answer, short, pick, passes, next}
 use Rattle.rules.specs.Turns.{turnsRule}
 use Rattle.elements.specs.Numbers.{bits, refused, refusalOf, element}
 use Rattle.rules.specs.Rules.{inTurn}
+
+-- elements of no bytes are never short
+pub some-size : (n size : ℕ) {left : ℕ} → left < n * size → 0 < size
+some-size n zero h = absurd (omega (arith, rw (mul-zero n) at h))
+some-size n (suc size) h = omega arith
 
 -- a format is refused, or passes
 abbrev pub Format : Answer → Type 0
@@ -22,10 +28,8 @@ Format a = (a ≡ passes) ⊎ (eqb (a .number) 0 ≡ false)
 
 module _ (bytes : List ℕ) (at size : ℕ) where
   -- where the first is short
-  short-first : (format : Answer) (n : ℕ) → length bytes - at < size → inTurn bytes at size format (suc n) ≡ answer 1 []
-  short-first format zero h =
-      let e : length bytes - (at + 0 * size) < size = omega (arith, h, zero-mul size) in
-      rw (lt-ltb (length bytes - (at + 0 * size)) size e)
+  short-first : (format : Answer) (n : ℕ) → length bytes - at < size → inTurn bytes at size format (suc n) ≡ short size (length bytes - at)
+  short-first format zero h = rw (zero-mul size, add-zero at, lt-ltb (length bytes - at) size h)
   short-first format (suc n) h = rw (short-first format n h)
 
   -- where the format is refused
@@ -42,12 +46,22 @@ module _ (bytes : List ℕ) (at size : ℕ) where
       let e = suc-mul n size in
       rw (all-held n (omega arith), le-ltb (length bytes - (at + n * size)) size (omega arith))
 
-  short-later : (n : ℕ) → length bytes - at < n * size → inTurn bytes at size passes n ≡ answer 1 []
+  -- what is left behind n elements that are whole, where that is less than one
+  left-behind : (n : ℕ) → n * size ≤ length bytes - at → length bytes - (at + n * size) < size
+      → length bytes - (at + n * size) ≡ (length bytes - at) % size
+  left-behind n k h =
+      let e : length bytes - at ≡ n * size + (length bytes - (at + n * size)) = omega arith in
+      sym (ap (λ (m : ℕ). m % size) e ∙ digits-mod n h)
+
+  -- the bytes that are left modulo the size are what is left at the one that is short
+  short-later : (n : ℕ) → length bytes - at < n * size → inTurn bytes at size passes n ≡ short size ((length bytes - at) % size)
   short-later zero h = absurd (omega (arith, h, zero-mul size))
   short-later (suc n) h =
       let e = suc-mul n size in
       elim (decLe (n * size) (length bytes - at)) [
-        | yes k ↦ rw (all-held n k, lt-ltb (length bytes - (at + n * size)) size (omega arith))
+        | yes k ↦
+            let l : length bytes - (at + n * size) < size = omega arith in
+            rw (all-held n k, lt-ltb (length bytes - (at + n * size)) size l) (ap (short size) (left-behind n k l))
         | no k ↦ rw (short-later n (lt-of-not-le k))
       ]
 
@@ -62,7 +76,7 @@ module _ (bytes : List ℕ) (at size : ℕ) where
       ]
     where
       go : size ≤ length bytes - at → Format format → inTurn bytes at size format (suc n)
-          ≡ next (refusalOf (pick (eqb (format .number) 0) (bits value) (refused format))) (pick (ltb (length bytes - at) (suc n * size)) (answer 1 []) passes)
+          ≡ next (refusalOf (pick (eqb (format .number) 0) (bits value) (refused format))) (pick (ltb (length bytes - at) (suc n * size)) (short size ((length bytes - at) % size)) passes)
       go h (inr e) = rw (bad-format format n h e, e, e)
       go h (inl e) =
           rw e

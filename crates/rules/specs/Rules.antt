@@ -4,38 +4,39 @@ use mathlib.Core.Bool.{not, _&&_}
 use mathlib.Core.List.{List, [], _∷_}
 use lib.Dec.{eqb, ltb}
 use lib.ListN.{length}
-use Rattle.answers.specs.Table.{Answer, answer, wholes, pick, passes, next}
+use Rattle.answers.specs.Table.{Answer, answer, short, wholes, pick, passes, next}
 use Rattle.layout.specs.declared.control.ParseControl.{ParseControl}
 use Rattle.layout.specs.Size.{fitRules}
 use Rattle.layout.specs.Triangle.{slotsOf}
 use Rattle.elements.specs.declared.head.Head.{Head}
 use Rattle.elements.specs.Elements.{headOf, deviationsAt, deviationCount, codesAt, presentCount, endAt}
 use Rattle.elements.specs.Formats.{deviationFormat, codeFormat}
+use Rattle.elements.specs.Numbers.{elementRule}
 
--- each of n elements of `size` bytes from `at` on, in turn: fewer bytes left: 1; then what its format is refused with
+-- each of n elements of `size` bytes from `at` on, in turn
 abbrev pub inTurn : List ℕ → ℕ → ℕ → Answer → ℕ → Answer
 inTurn bytes at size format zero = passes
 inTurn bytes at size format (suc n) =
-    next (inTurn bytes at size format n) (pick (ltb (length bytes - (at + n * size)) size) (answer 1 []) format)
+    next (inTurn bytes at size format n) (elementRule bytes (at + n * size) size format)
 
--- CS=1, Clen>0 and present·Clen exceeds what is left: 1
+-- CS=1, Clen>0 and present·Clen exceeds what is left: 1 with present·Clen and what is left
 abbrev pub codesRule : ParseControl → ℕ → ℕ → Answer
 codesRule c present left =
-    pick (c .cs && not (eqb (c .clen) 0) && ltb left (present * c .clen)) (answer 1 []) passes
+    pick (c .cs && not (eqb (c .clen) 0) && ltb left (present * c .clen)) (short (present * c .clen) left) passes
 
 -- bytes left over: 2 with bytes used, bytes given
 abbrev pub overRule : ℕ → ℕ → Answer
 overRule used given = pick (ltb used given) (answer 2 (wholes (used ∷ given ∷ []))) passes
 
 module _ (bytes : List ℕ) (h : Head) where
-  -- each deviation in turn
+  -- each deviation in turn: fewer than Slen bytes left: 1 with Slen and what is left there; then its format
   abbrev pub ruleH : Answer
   ruleH = inTurn bytes (deviationsAt h) (h .control .slen) (deviationFormat (h .control)) (deviationCount h)
 
   abbrev pub ruleI : Answer
   ruleI = codesRule (h .control) (presentCount bytes h) (length bytes - codesAt h)
 
-  -- each present slot in turn
+  -- each present slot in turn: fewer than Clen bytes left: 1 with Clen and what is left there; then its format
   abbrev pub ruleJ : Answer
   ruleJ = inTurn bytes (codesAt h) (h .control .clen) (codeFormat (h .control)) (presentCount bytes h)
 

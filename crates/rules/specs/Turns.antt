@@ -1,12 +1,12 @@
 -- Rules h) and j), by their first element.
-use Prim.Native.Nat.{ℕ, _*_}
-use mathlib.Core.List.{[]}
+use Prim.Native.Nat.{ℕ, _*_, _%_}
 use lib.Dec.{eqb, ltb}
-use Rattle.answers.specs.Table.{Answer, answer, pick, passes, next}
+use Rattle.answers.specs.Table.{Answer, short, pick, passes, next}
 use Rattle.elements.specs.Numbers.{Read, refusalOf}
 
--- the first element tells of the others; where it is read, only their bytes can be short
+-- the first element tells of the others; where it is read, only their bytes can be short, and those before the one
+-- that is short are whole
 abbrev pub turnsRule : Read → ℕ → ℕ → ℕ → Answer
 turnsRule first count size left =
     pick (eqb count 0) passes
-    (next (refusalOf first) (pick (ltb left (count * size)) (answer 1 []) passes))
+    (next (refusalOf first) (pick (ltb left (count * size)) (short size (left % size)) passes))

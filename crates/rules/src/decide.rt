@@ -29,8 +29,9 @@ fn codes_there(control: ParseControl, present: usize, after: usize) -> Check
     if !control.cs {
         return Check::Passes;
     }
-    if after < present * control.clen as usize {
-        Check::Refused(Refusal::TruncatedField)
+    let needed = present * control.clen as usize;
+    if after < needed {
+        Check::Refused(Refusal::TruncatedField { needed, got: after })
     } else {
         Check::Passes
     }

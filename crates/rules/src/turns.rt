@@ -21,7 +21,11 @@ pub(crate) fn in_turn(first: Number, count: usize, size: usize, left: usize) -> 
         return check_number(first);
     };
     if left < count * size {
-        Check::Refused(Refusal::TruncatedField)
+        // those before the one that is short are whole
+        Check::Refused(Refusal::TruncatedField {
+            needed: size,
+            got: left % size,
+        })
     } else {
         Check::Passes
     }

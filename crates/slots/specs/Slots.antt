@@ -1,5 +1,5 @@
 -- The slots of a pack in either form, sparse or full, from ST 1010.3: elements 3 and 5.
-use Prim.Native.Nat.{ℕ, _+_, _*_, _/_}
+use Prim.Native.Nat.{ℕ, _+_, _*_}
 use mathlib.Core.Bool.{Bool, not, _&&_}
 use mathlib.Core.List.{List, []}
 use lib.ListN.{length, getD}
@@ -9,6 +9,7 @@ use Rattle.answers.specs.Lent.{tab, joined}
 use Rattle.numbers.specs.Digits.{spelt}
 use Rattle.numbers.specs.Words.{bytesOf}
 use Rattle.imapb.specs.Mapping.{codeOf}
+use Rattle.layout.specs.Triangle.{bitBytes}
 use Rattle.plan.specs.Zero.{isZero}
 
 -- a correlation's code of L bytes
@@ -29,7 +30,7 @@ module _ (sparse : Bool) (cs : List ℕ) where
   vectorByte i = eightBits (8 * i)
 
   abbrev pub element3 : List ℕ
-  element3 = pick sparse (tab ((length cs + 7) / 8) vectorByte) []
+  element3 = pick sparse (tab (bitBytes (length cs)) vectorByte) []
 
   -- element 5: the code of each correlation that is sent
   abbrev pub codeBytes : ℕ → ℕ → List ℕ

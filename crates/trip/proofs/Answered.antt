@@ -4,15 +4,17 @@ use mathlib.Core.List.{List, [], _∷_}
 use Prim.Native.Nat.{ℕ, zero, suc, _+_, _-_, _*_}
 use lib.Dec.{ltb}
 use lib.ListN.{length}
-use Rattle.answers.specs.Table.{Answer, answer, wholes, pick, next}
+use Rattle.answers.specs.Table.{Answer, answer, short, wholes, next}
 use Rattle.answers.specs.Listed.{InTable}
 use Rattle.answers.proofs.InTable.{in-done, in-1, in-pick, in-next, table}
 use Rattle.imapb.specs.Tables.{rangeRule}
 use Rattle.layout.specs.declared.control.ParseControl.{ParseControl}
-use Rattle.layout.specs.Size.{matrixSize, controlOf, bodyAt, headRules, fitRules, sizeRules}
-use Rattle.numbers.specs.BerOid.{oidRead}
+use Rattle.layout.specs.declared.header.Header.{Header}
+use Rattle.layout.specs.declared.header.Header.the-variants.{Open, Unreadable, Short}
+use Rattle.layout.specs.Size.{matrixSize, controlOf, bodyAt, headerOf, headRule, headRules, fitRules, sizeRules}
 use Rattle.elements.specs.Elements.{headOf, deviationsAt, deviationCount, codesAt, presentCount, endAt}
 use Rattle.elements.specs.Formats.{deviationFormat, codeFormat}
+use Rattle.elements.specs.Numbers.{elementRule}
 use Rattle.reader.specs.Rules.{done}
 use Rattle.rules.specs.Rules.{inTurn, codesRule, overRule, ruleH, ruleI, ruleJ, ruleK, elementRules, packRules, roomRules}
 use Rattle.elements.specs.declared.head.Head.{Head}
@@ -22,12 +24,16 @@ use Rattle.trip.specs.Answered.{Answered}
 use Rattle.plan.specs.Rules.{countRules, rangeRules, planRules}
 use Rattle.slots.specs.Rules.{roomRule}
 
--- each element in turn, and each correlation
+-- each element, alone and in turn, and each correlation
+element-in : (bytes : List ℕ) (at size : ℕ) (format : Answer) → InTable format → InTable (elementRule bytes at size format)
+element-in bytes at size format f =
+    in-pick (ltb (length bytes - at) size) (short size (length bytes - at)) format (in-1 size (length bytes - at)) f
+
 turns-in : (bytes : List ℕ) (at size : ℕ) (format : Answer) → InTable format → (n : ℕ) → InTable (inTurn bytes at size format n)
 turns-in bytes at size format f zero = in-done []
 turns-in bytes at size format f (suc n) =
-    in-next (inTurn bytes at size format n) (pick (ltb (length bytes - (at + n * size)) size) (answer 1 []) format) (turns-in bytes at size format f n)
-    (in-pick (ltb (length bytes - (at + n * size)) size) (answer 1 []) format in-1 f)
+    in-next (inTurn bytes at size format n) (elementRule bytes (at + n * size) size format) (turns-in bytes at size format f n)
+    (element-in bytes (at + n * size) size format f)
 
 range-in : (v : ℕ) → InTable (rangeRule v)
 range-in v = search table depth 10
@@ -40,8 +46,13 @@ ranges-in (c ∷ cs) = in-next (rangeRule c) (rangeRules cs) (range-in c) (range
 sizes-in : (n R : ℕ) (k : ParseControl) → InTable (sizeRules n R k)
 sizes-in n R k = search table depth 20
 
+header-in : (h : Header) → InTable (headRule h)
+header-in Unreadable = in-1 0 0
+header-in Short = in-1 1 0
+header-in (Open n control body) = in-done []
+
 heads-in : (bytes : List ℕ) → InTable (headRules bytes)
-heads-in bytes = search table depth 10
+heads-in bytes = header-in (headerOf bytes)
 
 formats-in : (k : ParseControl) → InTable (deviationFormat k) × InTable (codeFormat k)
 formats-in k = (search table depth 10, search table depth 10)
@@ -74,10 +85,6 @@ fits-in bytes =
 packs-in : (bytes : List ℕ) → InTable (packRules bytes)
 packs-in bytes = in-next (fitRules bytes) (elementRules bytes (headOf bytes)) (fits-in bytes) (elements-in bytes)
 
-oid-in : (bytes : List ℕ) → InTable (oidRead bytes)
-unfolding oidRead
-oid-in bytes = search table depth 10
-
 -- the writer's counts, the plan, the room, and the slots
 counts-in : (n count L : ℕ) → InTable (countRules n count L)
 counts-in n count L = search table depth 10
@@ -99,11 +106,11 @@ answered =
           let behind = next (roomRules h d c p) (done h) in
           in-next (fitRules bytes) (next (elementRules bytes h) behind) (fits-in bytes)
           (in-next (elementRules bytes h) behind (elements-in bytes) (in-next (roomRules h d c p) (done h) (rooms-in h d c p) (search table depth 10)));
+      heads = heads-in;
       fits = sizes-in;
       opens = fits-in;
       decides = packs-in;
       rooms = rooms-in;
-      reads-oid = oid-in;
       writes = λ ds cs L room.
           let long = length (packBytes ds cs L) in
           let done = answer 0 (wholes (long ∷ [])) in

@@ -5,26 +5,26 @@ use Rattle.answers.specs.Listed.{InTable}
 use Rattle.imapb.specs.Tables.{rangeRule, imapbWritten, specialWritten}
 use Rattle.imapb.specs.declared.special.ImapbSpecial.{ImapbSpecial}
 use Rattle.layout.specs.declared.control.ParseControl.{ParseControl}
-use Rattle.layout.specs.Size.{sizeRules, fitRules}
+use Rattle.layout.specs.Size.{headRules, sizeRules, fitRules}
 use Rattle.elements.specs.declared.head.Head.{Head}
 use Rattle.rules.specs.Rules.{packRules, roomRules}
 use Rattle.plan.specs.Rules.{planRules}
 use Rattle.slots.specs.Rules.{slotsRules}
 use Rattle.layout.specs.declared.pack.SdccFlp.{SdccFlp}
 use Rattle.matrix.specs.Lookup.{cellAnswer}
-use Rattle.numbers.specs.BerOid.{oidRead, oidWritten}
+use Rattle.numbers.specs.BerOid.{oidWritten}
 use Rattle.reader.specs.Rules.{readAnswer}
 use Rattle.report.specs.Printed.{printAnswer}
 use Rattle.writer.specs.Rules.{writeAnswer}
 
 pub record Answered : Type 0 where
-  -- the reader, for every byte string and all rooms; the size check and the BER-OID reader within it
+  -- the reader, for every byte string and all rooms; the header and the size check within it
   pub reads : (bytes : List ℕ) (d c p : ℕ) → InTable (readAnswer bytes d c p)
+  pub heads : (bytes : List ℕ) → InTable (headRules bytes)
   pub fits : (n R : ℕ) (k : ParseControl) → InTable (sizeRules n R k)
   pub opens : (bytes : List ℕ) → InTable (fitRules bytes)
   pub decides : (bytes : List ℕ) → InTable (packRules bytes)
   pub rooms : (h : Head) (d c p : ℕ) → InTable (roomRules h d c p)
-  pub reads-oid : (bytes : List ℕ) → InTable (oidRead bytes)
   -- the writer, for all numbers and rooms; the plan and the slots within it
   pub writes : (ds cs : List ℕ) (L room : ℕ) → InTable (writeAnswer ds cs L room)
   pub plans : (n : ℕ) (cs : List ℕ) (L : ℕ) → InTable (planRules n cs L)

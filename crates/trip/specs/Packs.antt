@@ -3,7 +3,7 @@ use Prim.Native.Nat.{ℕ}
 use mathlib.Core.List.{List, [], _∷_, _++_}
 use lib.Dec.{eqb}
 use lib.ListN.{length}
-use Rattle.answers.specs.Table.{Answer, answer, wholes, pick}
+use Rattle.answers.specs.Table.{Answer, answer, short, wholes, pick}
 use Rattle.layout.specs.Size.{maxRows, maxSlots}
 use Rattle.elements.specs.Elements.{headOf, deviations, correlations, presence}
 use Rattle.reader.specs.Rules.{readAnswer}
@@ -69,7 +69,7 @@ pTable =
     ∷ reads (0x02 ∷ 0x41 ∷ (D ++ (0x60 ∷ []))) (pair half 1)
     ∷ reads (0x02 ∷ 0x80 ∷ 0x00 ∷ []) (refused (answer 2 (wholes (0 ∷ 0 ∷ []))))
     ∷ reads (0x82 ∷ 0x01 ∷ 0x80 ∷ 0x04 ∷ []) (refused (answer 3 (wholes (257 ∷ 0 ∷ 256 ∷ []))))
-    ∷ reads (0x82 ∷ 0x00 ∷ 0x80 ∷ 0x04 ∷ []) (refused (answer 1 []))
+    ∷ reads (0x82 ∷ 0x00 ∷ 0x80 ∷ 0x04 ∷ []) (refused (short 1024 0))
     ∷ reads (0x00 ∷ 0x90 ∷ 0x04 ∷ []) (done 0 0 0 [] [] [])
     ∷ reads (0x02 ∷ 0xA0 ∷ 0x04 ∷ 0x80 ∷ D) (pair 0 0)
     ∷ reads (0x02 ∷ 0xBF ∷ 0x04 ∷ 0x00 ∷ D) (pair 0 0)

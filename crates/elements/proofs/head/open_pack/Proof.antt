@@ -1,89 +1,44 @@
--- `head::open_pack` meets its contract: rules a) to g) in their order.
+-- `head::open_pack` meets its contract: rules a) and b), and behind them c) to g).
 -- Assumes nothing.
-use mathlib.Core.List.{List}
-use mathlib.Core.Path.{_≡_, sym, ap, _∙_}
-use Prim.Native.Nat.{ℕ}
+use mathlib.Core.Path.{sym, _∙_}
 use borrow.Author.Needs.{needs}
-use Rattle.answers.specs.Listed.{checked}
-use Rattle.answers.specs.Outcome.{found}
-use Rattle.answers.proofs.Outcome.{found-where, refused-where}
-use Rattle.answers.specs.Table.{Answer}
-use Rattle.elements.proofs.Opened.{short-refused, head-is, fit-within}
-use Rattle.elements.specs.Elements.{headOf, placesOf}
-use Rattle.layout.proofs.Peek.{body-within, fit-is}
-use Rattle.layout.specs.Listed.{headerOf}
-use Rattle.layout.specs.Size.{fitRules}
-use Rattle.layout.specs.declared.header.Header.the-variants.{Open}
+use Rattle.elements.proofs.Opened.{unreadable-refused, short-refused}
 use Rattle.elements.proofs.head.open_pack.Statement.{statement}
 use Rattle.elements.proofs.head.open_pack.Tie as tie
 
-abbrev bytes : tie.After-check-matrix-size-fits → List ℕ
-bytes c = c .before .before .before .before .before .before .args .bytes .now
-
--- the header that was read
-was-open : (c : tie.After-check-matrix-size-fits)
-    → let g = c .before .before .header .given .0 in Open (g .0) (g .1 .0) (g .1 .1 .0) ≡ headerOf (bytes c)
-was-open c = sym (c .before .before .header .given .1) ∙ c .before .before .before .before .read-header .ensures
-
--- what the size check says
-fits : (c : tie.After-check-matrix-size-fits) → checked (c .check-matrix-size-fits .result) ≡ fitRules (bytes c)
-fits c = c .check-matrix-size-fits .ensures ∙ sym (fit-is (bytes c) (was-open c))
-
 read-header-requires : tie.Need-read-header-requires
-read-header-requires c κs = search needs
-
-enum-known-header : tie.Need-enum-known-header
-enum-known-header c = search needs
+read-header-requires c κs = tt
 
 enum-told : tie.Need-enum-told
 enum-told c = search needs
 
-returns : tie.Need-returns
-returns c = short-refused (c .before .before .before .before .args .bytes .now) (sym (c .enum-told .given .1) ∙ c .before .before .read-header .ensures)
-
-sub-check-matrix-size-fits : tie.Need-sub-check-matrix-size-fits
-sub-check-matrix-size-fits c = body-within (c .before .before .before .before .before .args .bytes .now) (sym (c .before .header .given .1) ∙ c .before .before .before .read-header .ensures)
-
-check-matrix-size-fits-requires : tie.Need-check-matrix-size-fits-requires
-check-matrix-size-fits-requires c κs = search needs
-
-enum-known-fits : tie.Need-enum-known-fits
-enum-known-fits c = search needs
-
-returns-2 : tie.Need-returns-2
-returns-2 c =
-    let d = c .before .before .before in
-    let e = c .before .fits2 .given in
-    refused-where (fitRules (bytes d)) (placesOf (headOf (bytes d))) (e .0 .0) (sym (fits d) ∙ ap checked (e .1))
-
 enum-told-2 : tie.Need-enum-told-2
 enum-told-2 c = search needs
 
-places-of-requires : tie.Need-places-of-requires
-places-of-requires c κs =
-    let d = c .before .before in
-    rw (head-is (bytes d) (was-open d))
-    (fit-within (bytes d) (ap (λ (x : Answer). x .number) (sym (fits d) ∙ ap checked (c .enum-told2 .given .1))))
+enum-known-n : tie.Need-enum-known-n
+enum-known-n c = search needs
+
+open-body-requires : tie.Need-open-body-requires
+open-body-requires c κs = sym (c .before .n .given .1) ∙ c .before .before .before .read-header .ensures
+
+returns : tie.Need-returns
+returns c = unreadable-refused (c .before .before .before .before .args .bytes .now) (sym (c .enum-told .given .1) ∙ c .before .before .read-header .ensures)
+
+returns-2 : tie.Need-returns-2
+returns-2 c = short-refused (c .before .before .before .before .args .bytes .now) (sym (c .enum-told2 .given .1) ∙ c .before .before .read-header .ensures)
 
 returns-3 : tie.Need-returns-3
-returns-3 c =
-    let d = c .before .before .before in
-    ap found (c .places-of .ensures ∙ ap placesOf (head-is (bytes d) (was-open d)))
-    ∙ found-where (fitRules (bytes d)) (placesOf (headOf (bytes d)))
-    (ap (λ (x : Answer). x .number) (sym (fits d) ∙ ap checked (c .before .enum-told2 .given .1)))
+returns-3 c = c .open-body .ensures
 
 pub open-pack-spec : {M : Type 1} → statement M
 open-pack-spec =
     tie.close
     (tie.spec
     read-header-requires
-    enum-known-header
     enum-told
-    returns
-    sub-check-matrix-size-fits
-    check-matrix-size-fits-requires
-    enum-known-fits
-    returns-2
     enum-told-2
-    places-of-requires
+    enum-known-n
+    open-body-requires
+    returns
+    returns-2
     returns-3)

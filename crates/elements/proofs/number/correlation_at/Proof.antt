@@ -50,7 +50,7 @@ left-requires c κs = search needs
 returns-2 : tie.Need-returns-2
 returns-2 c =
     let a = c .before .before .before .before .before .before .args in
-    rw (lt-ltb (length (a .bytes .now) - a .at) (a .control .clen) (omega arith))
+    rw (c .before .left .ensures, lt-ltb (length (a .bytes .now) - a .at) (a .control .clen) (omega arith))
 
 returns-3 : tie.Need-returns-3
 returns-3 c =

@@ -24,7 +24,7 @@ left-requires : tie.Need-left-requires
 left-requires c κs = search needs
 
 returns : tie.Need-returns
-returns c = let a = c .before .before .before .before .before .args in rw (lt-ltb (length (a .bytes .now) - a .at) (a .control .slen) (omega arith))
+returns c = let a = c .before .before .before .before .before .args in rw (c .before .left .ensures, lt-ltb (length (a .bytes .now) - a .at) (a .control .slen) (omega arith))
 
 returns-2 : tie.Need-returns-2
 returns-2 c =

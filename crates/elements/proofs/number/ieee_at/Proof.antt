@@ -22,7 +22,7 @@ left-requires : tie.Need-left-requires
 left-requires c κs = search needs
 
 returns : tie.Need-returns
-returns c = let a = c .before .before .before .args in rw (lt-ltb (length (a .bytes .now) - a .at) (a .size) (omega arith))
+returns c = let a = c .before .before .before .args in rw (c .before .left .ensures, lt-ltb (length (a .bytes .now) - a .at) (a .size) (omega arith))
 
 add-end : tie.Need-add-end
 add-end c = search needs

@@ -1,8 +1,7 @@
 -- `header::read_header` meets its contract.
 -- Assumes nothing.
-use mathlib.Core.Path.{sym, ap, _∙_}
+use mathlib.Core.Path.{sym, _∙_}
 use borrow.Author.Needs.{needs}
-use Rattle.numbers.specs.BerOid.{oidListed}
 use Rattle.layout.proofs.header.read_header.Statement.{statement}
 use Rattle.layout.proofs.header.read_header.Tie as tie
 
@@ -16,11 +15,11 @@ enum-told : tie.Need-enum-told
 enum-told c = search needs
 
 returns : tie.Need-returns
-returns c = rw (← (ap oidListed (sym (c .enum-told .given .1)) ∙ c .before .before .read-ber-oid .ensures))
+returns c = rw (← (sym (c .enum-told .given .1) ∙ c .before .before .read-ber-oid .ensures))
 
 -- the number that was read
 header-behind-requires : tie.Need-header-behind-requires
-header-behind-requires c κs = ap oidListed (sym (c .before .oid .given .1)) ∙ c .before .before .before .read-ber-oid .ensures
+header-behind-requires c κs = sym (c .before .oid .given .1) ∙ c .before .before .before .read-ber-oid .ensures
 
 returns-2 : tie.Need-returns-2
 returns-2 c = search needs

@@ -6,12 +6,10 @@ use Prim.Native.Nat.{ℕ}
 use borrow.Author.Needs.{needs}
 use Rattle.answers.specs.Listed.{checked}
 use Rattle.answers.proofs.OneToOne.{refused-not-done}
-use Rattle.numbers.specs.BerOid.{oidListed}
 use Rattle.layout.specs.declared.header.Header.the-variants.{Open}
 use Rattle.layout.specs.declared.size.Peek.the-variants.{Size}
-use Rattle.layout.specs.Size.{fitRules}
-use Rattle.layout.specs.Listed.{headerOf}
-use Rattle.layout.proofs.Peek.{opened, body-within, fit-is, short-is}
+use Rattle.layout.specs.Size.{headerOf, fitRules}
+use Rattle.layout.proofs.Peek.{opened, body-within, fit-is, not-open}
 use Rattle.layout.proofs.size.peek_matrix_size.Statement.{statement}
 use Rattle.layout.proofs.size.peek_matrix_size.Tie as tie
 
@@ -26,20 +24,17 @@ enum-told c = search needs
 
 -- N is unreadable
 returns : tie.Need-returns
-returns c = rw (← (ap oidListed (sym (c .enum-told .given .1)) ∙ c .before .before .read-ber-oid .ensures))
+returns c = rw (← (sym (c .enum-told .given .1) ∙ c .before .before .read-ber-oid .ensures))
 
 -- the number that was read
 header-behind-requires : tie.Need-header-behind-requires
-header-behind-requires c κs = ap oidListed (sym (c .before .oid .given .1)) ∙ c .before .before .before .read-ber-oid .ensures
+header-behind-requires c κs = sym (c .before .oid .given .1) ∙ c .before .before .before .read-ber-oid .ensures
 
 enum-known-header : tie.Need-enum-known-header
 enum-known-header c = search needs
 
-enum-told-2 : tie.Need-enum-told-2
-enum-told-2 c = search needs
-
 returns-2 : tie.Need-returns-2
-returns-2 c = simp (short-is _ (sym (c .enum-told2 .given .1) ∙ c .before .before .header-behind .ensures))
+returns-2 c = let h = c .before .header-behind in simp (rw (h .ensures) at (not-open (h .result) (c .match2 .keys2)))
 
 abbrev bytes-of : tie.After-header → List ℕ
 bytes-of c = c .before .before .before .before .before .before .before .before .args .bytes .now
@@ -54,23 +49,23 @@ sub-check-matrix-size-fits c = body-within (bytes-of (c .before)) (read (c .befo
 check-matrix-size-fits-requires : tie.Need-check-matrix-size-fits-requires
 check-matrix-size-fits-requires c κs = search needs
 
+enum-told-2 : tie.Need-enum-told-2
+enum-told-2 c = search needs
+
 enum-told-3 : tie.Need-enum-told-3
 enum-told-3 c = search needs
-
-enum-told-4 : tie.Need-enum-told-4
-enum-told-4 c = search needs
 
 -- the check answers as rules a) to g) do
 checks : (c : tie.After-check-matrix-size-fits) → checked (c .check-matrix-size-fits .result) ≡ fitRules (bytes-of (c .before .before))
 checks c = let h = c .before .before in c .check-matrix-size-fits .ensures ∙ sym (fit-is (bytes-of h) (read h))
 
 returns-3 : tie.Need-returns-3
-returns-3 c = rw (← (checks (c .before .before)), c .enum-told4 .given .1, refused-not-done (c .enum-told4 .given .0 .0))
+returns-3 c = rw (← (checks (c .before .before)), c .enum-told3 .given .1, refused-not-done (c .enum-told3 .given .0 .0))
 
 returns-4 : tie.Need-returns-4
 returns-4 c =
     let h = c .before .before .before .before in
-    rw (← (checks (c .before .before)), c .enum-told3 .given .1) (ap Size (opened (bytes-of h) (read h) .size))
+    rw (← (checks (c .before .before)), c .enum-told2 .given .1) (ap Size (opened (bytes-of h) (read h) .size))
 
 pub peek-matrix-size-spec : {M : Type 1} → statement M
 peek-matrix-size-spec =
@@ -82,11 +77,10 @@ peek-matrix-size-spec =
     returns
     header-behind-requires
     enum-known-header
-    enum-told-2
     returns-2
     sub-check-matrix-size-fits
     check-matrix-size-fits-requires
+    enum-told-2
     enum-told-3
-    enum-told-4
     returns-3
     returns-4)

@@ -1,8 +1,10 @@
 -- `turns::in_turn` meets its contract.
 -- Assumes nothing.
+use native.Mathlib.Omega.{arith}
 use borrow.Author.Needs.{needs}
 use borrow.Author.Tests.{ne-eqb, lt-ltb, le-ltb}
 use Rattle.answers.proofs.OneToOne.{refused-not-done}
+use Rattle.rules.proofs.InTurn.{some-size}
 use Rattle.rules.proofs.turns.in_turn.Statement.{statement}
 use Rattle.rules.proofs.turns.in_turn.Tie as tie
 
@@ -24,6 +26,9 @@ returns-2 c = rw (ne-eqb _ 0 (c .before .before .before .if1 .left), c .check-nu
 mul-if2 : tie.Need-mul-if2
 mul-if2 c = search needs
 
+rem-t8 : tie.Need-rem-t8
+rem-t8 c = let a = c .before .before .before .before .args in omega (arith, some-size (a .count) (a .size) (c .if2 .taken))
+
 returns-3 : tie.Need-returns-3
 returns-3 c = rw (ne-eqb _ 0 (c .before .before .before .if1 .left), c .before .enum-told .given .1, lt-ltb _ _ (c .if2 .taken))
 
@@ -40,5 +45,6 @@ in-turn-spec =
     check-number-requires
     returns-2
     mul-if2
+    rem-t8
     returns-3
     returns-4)
