@@ -20,7 +20,7 @@ use Rattle.layout.specs.declared.control.ParseControl.{ParseControl}
 use Rattle.layout.specs.declared.header.Header.{Header}
 use Rattle.layout.specs.declared.header.Header.the-variants.{Open, Unreadable, Short}
 use Rattle.layout.specs.declared.size.Peek.the-variants.{Size, Nothing}
-use Rattle.layout.specs.Size.{matrixSize, controlOf, bodyAt, headerBehind, headerOf, headRule, headRules, sizeRules, fitRules}
+use Rattle.layout.specs.Size.{matrixSize, controlOf, bodyAt, headerBehind, headerOf, headerRefusal, headRules, sizeRules, fitRules}
 use Rattle.layout.specs.Listed.{peeked}
 use Rattle.answers.proofs.Next.{Says, IsRule, rules, next-passed}
 use Rattle.layout.proofs.header.Header.{the-type}
@@ -47,10 +47,10 @@ peek-nothing bytes e z = let o : _≡_ {A = ℕ} 0 1 = cc (peek-size bytes (matr
 pub head-tells : (bytes : List ℕ) → Says (λ _. bodyAt bytes ≤ length bytes) (headRules bytes)
 head-tells bytes = record { done = go (oidRead bytes) }
   where
-    go : (r : BerOid) → headRule (headerBehind bytes r) .number ≡ 0 → bodyAt bytes ≤ length bytes
+    go : (r : BerOid) → headerRefusal (headerBehind bytes r) .number ≡ 0 → bodyAt bytes ≤ length bytes
     go oid.Unreadable z = absurd (omega arith)
     go (oid.Read n taken) z =
-        picked (λ h. headRule h .number ≡ 0 → bodyAt bytes ≤ length bytes) _ _ _
+        picked (λ h. headerRefusal h .number ≡ 0 → bodyAt bytes ≤ length bytes) _ _ _
         (λ _ z. absurd (omega arith)) (λ f _. ltb-false (length bytes) (bodyAt bytes) f) z
 
 -- what a header that was read tells
@@ -65,7 +65,7 @@ module _ (bytes : List ℕ) {n : ℕ} {k : ParseControl} {b : ℕ} (o : Open n k
   opened = go (oidRead bytes) o
     where
       passed : headRules bytes .number ≡ 0
-      passed = ap (λ (h : Header). headRule h .number) (sym o)
+      passed = ap (λ (h : Header). headerRefusal h .number) (sym o)
 
       go : (r : BerOid) → Open n k b ≡ headerBehind bytes r → Opened bytes n k b
       go oid.Unreadable e = let z : _≡_ {A = ℕ} 0 1 = cc in absurd (omega arith)
@@ -82,7 +82,7 @@ module _ (bytes : List ℕ) {n : ℕ} {k : ParseControl} {b : ℕ} (o : Open n k
   fit-is = rw (opened .size, opened .control, opened .body) (next-passed (headRules bytes) _ (opened .passed))
 
 -- and one that was not read
-pub not-open : (h : Header) → OneOf (1 ∷ 2 ∷ []) (tagOf the-type h) → eqb (headRule h .number) 0 ≡ false
+pub not-open : (h : Header) → OneOf (1 ∷ 2 ∷ []) (tagOf the-type h) → eqb (headerRefusal h .number) 0 ≡ false
 not-open (Open n k b) t = absurd (miss (1 ∷ 2 ∷ []) 0 tt t)
 not-open Unreadable t = refl
 not-open Short t = refl

@@ -52,25 +52,26 @@ headerOf bytes = headerBehind bytes (oidRead bytes)
 
 -- a) N unreadable: 1 with 0, 0
 -- b) Parse Control short: 1 with 1, 0
-abbrev pub headRule : Header → Answer
-headRule Unreadable = short 0 0
-headRule Short = short 1 0
-headRule (Open n control body) = passes
+abbrev pub headerRefusal : Header → Answer
+headerRefusal Unreadable = short 0 0
+headerRefusal Short = short 1 0
+headerRefusal (Open n control body) = passes
 
 abbrev pub headRules : List ℕ → Answer
-headRules bytes = headRule (headerOf bytes)
+headRules bytes = headerRefusal (headerOf bytes)
 
--- R being the bytes after Parse Control, c) Slen=Clen=0: 2 with 0, 0
--- d) N>256: 3 with N, 0, 256
--- e) N·Slen>R: 1 with N·Slen, R
--- f) CS=0 and M·Clen>R: 1 with M·Clen, R
--- g) CS=1 and M>8R: 1 with ceil(M/8), R
+-- c) to g), R being the bytes after Parse Control
 abbrev pub sizeRules : ℕ → ℕ → ParseControl → Answer
 sizeRules n R c =
+    -- c) Slen=Clen=0: 2 with 0, 0
     pick (eqb (c .slen) 0 && eqb (c .clen) 0) (answer 2 (wholes (0 ∷ 0 ∷ [])))
+    -- d) N>256: 3 with N, 0, 256
     (pick (ltb maxRows n) (answer 3 (wholes (n ∷ 0 ∷ maxRows ∷ [])))
+    -- e) N·Slen>R: 1 with N·Slen and R
     (pick (ltb R (n * c .slen)) (short (n * c .slen) R)
+    -- f) CS=0 and M·Clen>R: 1 with M·Clen and R
     (pick (not (c .cs) && ltb R (slotsOf n * c .clen)) (short (slotsOf n * c .clen) R)
+    -- g) CS=1 and M>8R: 1 with ceil(M/8) and R
     (pick (c .cs && ltb (8 * R) (slotsOf n)) (short (bitBytes (slotsOf n)) R)
     passes))))
 

@@ -14,7 +14,7 @@ use Rattle.answers.proofs.Joined.{joined-le}
 use Rattle.answers.proofs.Rules.{picked}
 use Rattle.layout.specs.declared.header.Header.{Header}
 use Rattle.layout.specs.declared.header.Header.the-variants.{Open, Unreadable, Short}
-use Rattle.layout.specs.Size.{headRule}
+use Rattle.layout.specs.Size.{headerRefusal}
 use Rattle.layout.specs.Triangle.{slotsOf, slotOf}
 use Rattle.layout.proofs.RowByRow.{row-next, row-within, slots-mono}
 use Rattle.reader.specs.Rules.{readAnswer}
@@ -101,7 +101,7 @@ few-answer m es t = record { most = leb→le (length es) 3 t }
 few-pick : (t : Bool) (a b : Answer) → Few a → Few b → Few (pick t a b)
 few-pick t a b p q = picked Few t a b (λ _. p) (λ _. q)
 
-few-head : (h : Header) → Few (headRule h)
+few-head : (h : Header) → Few (headerRefusal h)
 few-head Unreadable = few-answer _ _ tt
 few-head Short = few-answer _ _ tt
 few-head (Open n control body) = few-answer _ _ tt

@@ -20,7 +20,8 @@ pub(crate) fn in_turn(first: Number, count: usize, size: usize, left: usize) -> 
     let Number::Bits(_) = first else {
         return check_number(first);
     };
-    if left < count * size {
+    let all = count * size;
+    if left < all {
         // those before the one that is short are whole
         Check::Refused(Refusal::TruncatedField {
             needed: size,

@@ -11,7 +11,7 @@ use Rattle.imapb.specs.Tables.{rangeRule}
 use Rattle.layout.specs.declared.control.ParseControl.{ParseControl}
 use Rattle.layout.specs.declared.header.Header.{Header}
 use Rattle.layout.specs.declared.header.Header.the-variants.{Open, Unreadable, Short}
-use Rattle.layout.specs.Size.{matrixSize, controlOf, bodyAt, headerOf, headRule, headRules, fitRules, sizeRules}
+use Rattle.layout.specs.Size.{matrixSize, controlOf, bodyAt, headerOf, headerRefusal, headRules, fitRules, sizeRules}
 use Rattle.elements.specs.Elements.{headOf, deviationsAt, deviationCount, codesAt, presentCount, endAt}
 use Rattle.elements.specs.Formats.{deviationFormat, codeFormat}
 use Rattle.elements.specs.Numbers.{elementRule}
@@ -46,7 +46,7 @@ ranges-in (c ∷ cs) = in-next (rangeRule c) (rangeRules cs) (range-in c) (range
 sizes-in : (n R : ℕ) (k : ParseControl) → InTable (sizeRules n R k)
 sizes-in n R k = search table depth 20
 
-header-in : (h : Header) → InTable (headRule h)
+header-in : (h : Header) → InTable (headerRefusal h)
 header-in Unreadable = in-1 0 0
 header-in Short = in-1 1 0
 header-in (Open n control body) = in-done []

@@ -1,4 +1,4 @@
--- P1 to P12: what the reader's and the writer's definitions give of each, computed.
+-- P1 to P12, and packs that end too early: what the reader's and the writer's definitions give of each, computed.
 -- Assumes nothing.
 use mathlib.Core.Path.{_≡_, refl}
 use lib.Ieee.{ofBits, toBits, ofInt, toUnsigned, add, sub, mul, div, le, round, nanBits}
@@ -8,8 +8,12 @@ use Rattle.numbers.specs.Conversions.{nearest, converted}
 use Rattle.imapb.specs.Mapping.{code, value}
 use Rattle.layout.specs.Triangle.{slotsOf}
 use Rattle.writer.specs.Pack.{formBytes}
-use Rattle.trip.specs.Packs.{pTable, outcomes, expected}
+use Rattle.trip.specs.Packs.{pTable, shortTable, outcomes, expected}
 
 pub packs-right : outcomes pTable ≡ expected pTable
 unfolding oidRead oidBytes wordOf bytesOf slotsOf converted nearest code value formBytes ofBits toBits ofInt toUnsigned add sub mul div le round nanBits
 packs-right = refl
+
+pub shorts-right : outcomes shortTable ≡ expected shortTable
+unfolding oidRead slotsOf
+shorts-right = refl

@@ -2,7 +2,7 @@
 use Prim.Native.Nat.{ℕ}
 use mathlib.Core.List.{List, [], _∷_, _++_}
 use lib.Dec.{eqb}
-use lib.ListN.{length}
+use lib.ListN.{length, replicate}
 use Rattle.answers.specs.Table.{Answer, answer, short, wholes, pick}
 use Rattle.layout.specs.Size.{maxRows, maxSlots}
 use Rattle.elements.specs.Elements.{headOf, deviations, correlations, presence}
@@ -74,6 +74,23 @@ pTable =
     ∷ reads (0x02 ∷ 0xA0 ∷ 0x04 ∷ 0x80 ∷ D) (pair 0 0)
     ∷ reads (0x02 ∷ 0xBF ∷ 0x04 ∷ 0x00 ∷ D) (pair 0 0)
     ∷ writes deviations12 (0 ∷ []) 1 (0x02 ∷ 0xB1 ∷ 0x04 ∷ 0x00 ∷ D)
+    ∷ []
+
+-- packs that end too early, one for each rule that can lack bytes: the bytes needed and the bytes there
+abbrev pub shortTable : List Row
+shortTable =
+    -- a) b) e)
+    reads [] (refused (short 0 0))
+    ∷ reads (0x02 ∷ 0x91 ∷ []) (refused (short 1 0))
+    ∷ reads (0x02 ∷ 0x91 ∷ 0x04 ∷ []) (refused (short 8 0))
+    -- f) three codes, g) ten bits
+    ∷ reads (0x03 ∷ 0x01 ∷ 0x60 ∷ 0x60 ∷ []) (refused (short 3 2))
+    ∷ reads (0x05 ∷ 0xA1 ∷ 0x00 ∷ 0xFF ∷ []) (refused (short 2 1))
+    -- h) the last of five deviations, behind two bytes of bits
+    ∷ reads (0x05 ∷ 0xA1 ∷ 0x04 ∷ 0x00 ∷ 0x00 ∷ (D ++ D ++ (0x3F ∷ 0x80 ∷ []))) (refused (short 4 2))
+    -- i) a code of 15 bytes, j) the second of three codes of two bytes
+    ∷ reads (0x02 ∷ 0xBF ∷ 0x04 ∷ 0x80 ∷ (D ++ replicate 14 0x60)) (refused (short 15 14))
+    ∷ reads (0x03 ∷ 0x92 ∷ 0x04 ∷ (D ++ (0x3F ∷ 0x80 ∷ 0x00 ∷ 0x00 ∷ 0x60 ∷ 0x00 ∷ 0x60 ∷ []))) (refused (short 2 1))
     ∷ []
 
 -- what a row comes to, with room for just that pack where it is written, and what it is to come to

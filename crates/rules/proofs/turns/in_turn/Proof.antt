@@ -23,8 +23,8 @@ check-number-requires c κs = search needs
 returns-2 : tie.Need-returns-2
 returns-2 c = rw (ne-eqb _ 0 (c .before .before .before .if1 .left), c .check-number .ensures, c .before .enum-told2 .given .1, refused-not-done)
 
-mul-if2 : tie.Need-mul-if2
-mul-if2 c = search needs
+mul-all : tie.Need-mul-all
+mul-all c = search needs
 
 rem-t8 : tie.Need-rem-t8
 rem-t8 c = let a = c .before .before .before .before .args in omega (arith, some-size (a .count) (a .size) (c .if2 .taken))
@@ -44,7 +44,7 @@ in-turn-spec =
     enum-told-2
     check-number-requires
     returns-2
-    mul-if2
+    mul-all
     rem-t8
     returns-3
     returns-4)
