@@ -3,7 +3,7 @@ pub mod row;
 
 // Rows 1 to 7, in the table's order. A binary64 is carried as its bits, so that a refused NaN comes back bit for bit.
 pub enum Refusal {
-    // 1, of bytes
+    // 1, in bytes
     TruncatedField { needed: usize, got: usize },
     // 2
     InvalidLength { expected: usize, got: usize },

@@ -8,8 +8,7 @@ use layout::pack::SdccFlp;
 use layout::size::check_matrix_size_fits;
 use layout::triangle::corr_slots;
 ghost use mathlib.Core.Path.{_≡_};
-ghost use Rattle.layout.specs.declared.header.Header.the-variants.{Open};
-ghost use Rattle.layout.specs.Size.{headerOf, fitRules};
+ghost use Rattle.layout.specs.Size.{fitRules};
 ghost use Rattle.elements.specs.Elements.{vectorLength, deviationCount, placesOf};
 ghost use Rattle.elements.specs.Held.{Within};
 ghost use Rattle.elements.specs.Listed.{packOf, openedListed, verdict};
@@ -79,18 +78,6 @@ fn places_of(bytes: &[u8], head: Head) -> Places
     }
 }
 
-// Rules c) to g), of a header that a) and b) have passed.
-fn open_body(bytes: &[u8], n: u32, control: ParseControl, body: usize) -> Opened
-    requires { ⌜ Open n control body ≡ headerOf (now bytes) ⌝ }
-    ensures { λ r. ⌜ openedListed r ≡ verdict (now (bytes .entry)) (fitRules (now (bytes .entry))) ⌝ }
-{
-    let fits = check_matrix_size_fits(n, bytes.len() - body, control);
-    if let Check::Refused(refusal) = fits {
-        return Opened::Refused(refusal);
-    }
-    Opened::Pack(places_of(bytes, Head { n, control, body }))
-}
-
 // Rules a) to g), and where the elements of what passes them start.
 pub fn open_pack(bytes: &[u8]) -> Opened
     ensures { λ r. ⌜ openedListed r ≡ verdict (now (bytes .entry)) (fitRules (now (bytes .entry))) ⌝ }
@@ -98,6 +85,12 @@ pub fn open_pack(bytes: &[u8]) -> Opened
     match read_header(bytes) {
         Header::Unreadable => Opened::Refused(Refusal::TruncatedField { needed: 0, got: 0 }),
         Header::Short => Opened::Refused(Refusal::TruncatedField { needed: 1, got: 0 }),
-        Header::Open { n, control, body } => open_body(bytes, n, control, body),
+        Header::Open { n, control, body } => {
+            let fits = check_matrix_size_fits(n, bytes.len() - body, control);
+            if let Check::Refused(refusal) = fits {
+                return Opened::Refused(refusal);
+            }
+            Opened::Pack(places_of(bytes, Head { n, control, body }))
+        }
     }
 }

@@ -23,6 +23,11 @@ seventh : printed (0x82 ∷ 0x01 ∷ 0x80 ∷ 0x04 ∷ []) ≡ ascii "refused 3 
 unfolding printed oidRead slotsOf places
 seventh = refl
 
+-- P8, which has 256 rows of four bytes and none of them
+eighth : printed (0x82 ∷ 0x00 ∷ 0x80 ∷ 0x04 ∷ []) ≡ ascii "refused 1 1024 0\n"
+unfolding printed oidRead slotsOf places
+eighth = refl
+
 -- 65 rows are too many, before anything else is refused; with 64 the reader answers
 rows-65 : printed (0x41 ∷ 0x90 ∷ 0x01 ∷ replicate 65 0) ≡ ascii "too big for this program\n"
 unfolding printed oidRead slotsOf
