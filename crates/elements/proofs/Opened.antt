@@ -12,7 +12,8 @@ use Rattle.answers.proofs.Outcome.{found-tells}
 use Rattle.answers.proofs.Rules.{picked}
 use Rattle.layout.specs.declared.control.ParseControl.{ParseControl}
 use Rattle.layout.specs.declared.header.Header.the-variants.{Open, Unreadable, Short}
-use Rattle.layout.specs.Size.{matrixSize, controlOf, bodyAt, headerOf, headRules, sizeRules, fitRules}
+use Rattle.layout.specs.Header.{matrixSize, controlOf, bodyAt, headerOf, headRules}
+use Rattle.layout.specs.Size.{sizeRules, fitRules}
 use Rattle.layout.specs.Triangle.{slotsOf, bitBytes}
 use Rattle.layout.proofs.Fits.{fits-tells}
 use Rattle.layout.proofs.Peek.{head-tells, opened}

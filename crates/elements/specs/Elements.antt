@@ -17,7 +17,7 @@ use Rattle.layout.specs.Control.{isSet}
 use Rattle.elements.specs.declared.head.Head.{Head}
 use Rattle.elements.specs.declared.head.Places.{Places}
 use Rattle.layout.specs.Triangle.{slotsOf, bitBytes}
-use Rattle.layout.specs.Size.{matrixSize, controlOf, bodyAt}
+use Rattle.layout.specs.Header.{matrixSize, controlOf, bodyAt}
 
 -- `size` bytes from `at` on
 abbrev pub part : List ℕ → ℕ → ℕ → List ℕ

@@ -20,8 +20,8 @@ use Rattle.layout.specs.declared.control.ParseControl.{ParseControl}
 use Rattle.layout.specs.declared.header.Header.{Header}
 use Rattle.layout.specs.declared.header.Header.the-variants.{Open, Unreadable, Short}
 use Rattle.layout.specs.declared.size.Peek.the-variants.{Size, Nothing}
-use Rattle.layout.specs.Size.{matrixSize, controlOf, bodyAt, headerBehind, headerOf, headerRefusal, headRules, sizeRules, fitRules}
-use Rattle.layout.specs.Listed.{peeked}
+use Rattle.layout.specs.Header.{matrixSize, controlOf, bodyAt, headerBehind, headerOf, headerRefusal, headRules}
+use Rattle.layout.specs.Size.{sizeRules, fitRules, peeked}
 use Rattle.answers.proofs.Next.{Says, IsRule, rules, next-passed}
 use Rattle.layout.proofs.header.Header.{the-type}
 

@@ -20,7 +20,8 @@ use Rattle.layout.specs.declared.control.ParseControl.{ParseControl}
 use Rattle.layout.specs.declared.header.Header.the-variants.{Open, Short}
 use Rattle.layout.specs.Control.{mode1, mode2}
 use Rattle.layout.specs.Triangle.{slotsOf, bitBytes}
-use Rattle.layout.specs.Size.{maxRows, controlAt, matrixSize, headerOf, sizeRules}
+use Rattle.layout.specs.Header.{controlAt, matrixSize, headerOf}
+use Rattle.layout.specs.Size.{maxRows, sizeRules}
 
 -- a) and b), where a number was read
 module _ (bytes : List ℕ) {v k : ℕ} (e : Read v k ≡ oidRead bytes) where

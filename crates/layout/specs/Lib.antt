@@ -1,4 +1,4 @@
 pub mod Control
 pub mod Triangle
+pub mod Header
 pub mod Size
-pub mod Listed

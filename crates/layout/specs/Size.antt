@@ -1,17 +1,14 @@
--- Document 01's limits, and the rules that a pack's size decides: a) to g) of the reader's order.
-use Prim.Native.Nat.{ℕ, suc, _+_, _-_, _*_}
-use mathlib.Core.Bool.{Bool, not, _&&_}
+-- Document 01's limits, the rules that a pack's size decides, c) to g) of the reader's order, and peek.
+use Prim.Native.Nat.{ℕ, _-_, _*_}
+use mathlib.Core.Bool.{not, _&&_}
 use mathlib.Core.List.{List, [], _∷_}
-use lib.Dec.{eqb, leb, ltb}
-use lib.ListN.{length, getD}
+use lib.Dec.{eqb, ltb}
+use lib.ListN.{length}
 use Rattle.answers.specs.Table.{Answer, answer, short, wholes, pick, passes, next}
-use Rattle.numbers.specs.declared.ber_oid.BerOid.{BerOid}
-use Rattle.numbers.specs.declared.ber_oid.BerOid.the-variants as oid
-use Rattle.numbers.specs.BerOid.{continued, oidValue, oidRead}
 use Rattle.layout.specs.declared.control.ParseControl.{ParseControl}
-use Rattle.layout.specs.declared.header.Header.{Header}
-use Rattle.layout.specs.declared.header.Header.the-variants.{Open, Unreadable, Short}
-use Rattle.layout.specs.Control.{mode1, mode2}
+use Rattle.layout.specs.declared.size.Peek.{Peek}
+use Rattle.layout.specs.declared.size.Peek.the-variants.{Size, Nothing}
+use Rattle.layout.specs.Header.{matrixSize, controlOf, bodyAt, headRules}
 use Rattle.layout.specs.Triangle.{slotsOf, bitBytes}
 
 -- the limits of the pack type
@@ -20,45 +17,6 @@ maxRows = 256
 
 abbrev pub maxSlots : ℕ
 maxSlots = 32640
-
--- ---- elements 1 and 2: N, and Parse Control behind it
-abbrev pub controlAt : List ℕ → ℕ
-controlAt bytes = suc (continued bytes)
-
-abbrev pub matrixSize : List ℕ → ℕ
-matrixSize bytes = oidValue (controlAt bytes) bytes
-
--- bit 7 of its first byte tells the mode
-abbrev pub isMode2 : List ℕ → Bool
-isMode2 bytes = leb 128 (getD bytes (controlAt bytes) 0)
-
-abbrev pub controlOf : List ℕ → ParseControl
-controlOf bytes =
-    pick (isMode2 bytes) (mode2 (getD bytes (controlAt bytes) 0) (getD bytes (suc (controlAt bytes)) 0))
-    (mode1 (getD bytes (controlAt bytes) 0))
-
--- the byte after the control
-abbrev pub bodyAt : List ℕ → ℕ
-bodyAt bytes = controlAt bytes + pick (isMode2 bytes) 2 1
-
--- what the two say, where N is readable and the control is not short
-abbrev pub headerBehind : List ℕ → BerOid → Header
-headerBehind bytes oid.Unreadable = Unreadable
-headerBehind bytes (oid.Read n taken) =
-    pick (ltb (length bytes) (bodyAt bytes)) Short (Open (matrixSize bytes) (controlOf bytes) (bodyAt bytes))
-
-abbrev pub headerOf : List ℕ → Header
-headerOf bytes = headerBehind bytes (oidRead bytes)
-
--- a) N unreadable: 1 with 0, 0
--- b) Parse Control short: 1 with 1, 0
-abbrev pub headerRefusal : Header → Answer
-headerRefusal Unreadable = short 0 0
-headerRefusal Short = short 1 0
-headerRefusal (Open n control body) = passes
-
-abbrev pub headRules : List ℕ → Answer
-headRules bytes = headerRefusal (headerOf bytes)
 
 -- c) to g), R being the bytes after Parse Control
 abbrev pub sizeRules : ℕ → ℕ → ParseControl → Answer
@@ -78,3 +36,7 @@ sizeRules n R c =
 -- a) to g)
 abbrev pub fitRules : List ℕ → Answer
 fitRules bytes = next (headRules bytes) (sizeRules (matrixSize bytes) (length bytes - bodyAt bytes) (controlOf bytes))
+
+-- N, or nothing where one of a) to g) refuses
+abbrev pub peeked : List ℕ → Peek
+peeked bytes = pick (eqb (fitRules bytes .number) 0) (Size (matrixSize bytes)) Nothing

@@ -7,7 +7,7 @@ use numbers::ber_oid::read_ber_oid;
 ghost use mathlib.Core.Path.{_≡_};
 ghost use Rattle.numbers.specs.declared.ber_oid.BerOid.the-variants.{Read};
 ghost use Rattle.numbers.specs.BerOid.{oidRead};
-ghost use Rattle.layout.specs.Size.{headerOf};
+ghost use Rattle.layout.specs.Header.{headerOf};
 
 // What the first two elements say, and where the third starts; or which of rules a) and b) refuses them.
 pub enum Header {

@@ -12,8 +12,7 @@ ghost use mathlib.Core.Path.{_≡_};
 ghost use lib.Dec.{ltb};
 ghost use Rattle.answers.specs.Table.{short, pick, passes};
 ghost use Rattle.answers.specs.Listed.{checked};
-ghost use Rattle.layout.specs.Size.{sizeRules};
-ghost use Rattle.layout.specs.Listed.{peeked};
+ghost use Rattle.layout.specs.Size.{sizeRules, peeked};
 
 // The size that a pack says, where the pack's own bytes could hold it.
 pub enum Peek {

@@ -5,8 +5,7 @@ use mathlib.Core.List.{List}
 use Prim.Native.Nat.{ℕ}
 use borrow.Author.Tests.{ne-eqb}
 use Rattle.layout.specs.declared.size.Peek.the-variants.{Nothing}
-use Rattle.layout.specs.Listed.{peeked}
-use Rattle.layout.specs.Size.{fitRules}
+use Rattle.layout.specs.Size.{peeked, fitRules}
 use Rattle.layout.proofs.Peek.{peek-nothing}
 use Rattle.reader.specs.Rules.{readAnswer}
 

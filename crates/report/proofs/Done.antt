@@ -20,8 +20,8 @@ use Rattle.answers.proofs.Lent.{length-tab, getD-tab}
 use Rattle.answers.proofs.Next.{next-zero, next-passed}
 use Rattle.answers.proofs.OneToOne.{refused-not-done}
 use Rattle.answers.proofs.Rules.{picked}
-use Rattle.layout.specs.Listed.{peeked}
-use Rattle.layout.specs.Size.{matrixSize, fitRules}
+use Rattle.layout.specs.Header.{matrixSize}
+use Rattle.layout.specs.Size.{peeked, fitRules}
 use Rattle.layout.specs.Triangle.{slotsOf}
 use Rattle.layout.specs.declared.pack.SdccFlp.{SdccFlp}
 use Rattle.layout.proofs.RowByRow.{slots-mono}

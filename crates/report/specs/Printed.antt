@@ -7,8 +7,8 @@ use lib.ListN.{length}
 use Rattle.answers.specs.Table.{Answer, answer, wholes, pick}
 use Rattle.layout.specs.declared.size.Peek.{Peek}
 use Rattle.layout.specs.declared.size.Peek.the-variants.{Size, Nothing}
-use Rattle.layout.specs.Listed.{peeked}
-use Rattle.layout.specs.Size.{matrixSize}
+use Rattle.layout.specs.Header.{matrixSize}
+use Rattle.layout.specs.Size.{peeked}
 use Rattle.elements.specs.Elements.{headOf, deviations, correlations, presence}
 use Rattle.reader.specs.Rules.{readAnswer}
 use Rattle.lines.specs.Lines.{refusedLine}

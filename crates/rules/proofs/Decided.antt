@@ -1,7 +1,7 @@
 -- Rules h) to k) as the reader decides them: h) and j) by their first element.
 -- Assumes nothing.
 use mathlib.Core.Path.{_≡_, refl}
-use mathlib.Core.Bool.{Bool, true, false, not, _||_, _&&_}
+use mathlib.Core.Bool.{Bool, true, false, not, _||_, and-false}
 use mathlib.Core.List.{List, [], _∷_}
 use mathlib.Core.Logic.{inl, inr}
 use Prim.Native.Nat.{ℕ, _-_, _*_, _≤_, _<_}
@@ -30,11 +30,7 @@ module _ (c : ParseControl) (present left : ℕ) where
   codes-short e h = rw (e, ne-eqb (c .clen) 0 (λ z. omega (arith, rw (z, mul-zero present) at h)), lt-ltb left (present * c .clen) h)
 
   pub codes-there : c .cs ≡ true → present * c .clen ≤ left → passes ≡ codesRule c present left
-  codes-there e h = rw (e, le-ltb left (present * c .clen) h) (go (not (eqb (c .clen) 0)))
-    where
-      go : (b : Bool) → passes ≡ pick (b && false) (short (present * c .clen) left) passes
-      go true = refl
-      go false = refl
+  codes-there e h = rw (e, le-ltb left (present * c .clen) h, and-false (not (eqb (c .clen) 0)))
 
 -- a format is refused, or passes
 either : (b : Bool) (x y : Answer) → Format x → Format y → Format (pick b x y)

@@ -40,7 +40,7 @@ module _ (bytes : List ℕ) (at size : ℕ) where
   bad-format format (suc n) h e = rw (bad-format format n h e, e)
 
   -- where only the bytes can be short
-  all-held : (n : ℕ) → n * size ≤ length bytes - at → inTurn bytes at size passes n ≡ passes
+  pub all-held : (n : ℕ) → n * size ≤ length bytes - at → inTurn bytes at size passes n ≡ passes
   all-held zero h = refl
   all-held (suc n) h =
       let e = suc-mul n size in

@@ -11,7 +11,8 @@ use Rattle.imapb.specs.Tables.{rangeRule}
 use Rattle.layout.specs.declared.control.ParseControl.{ParseControl}
 use Rattle.layout.specs.declared.header.Header.{Header}
 use Rattle.layout.specs.declared.header.Header.the-variants.{Open, Unreadable, Short}
-use Rattle.layout.specs.Size.{matrixSize, controlOf, bodyAt, headerOf, headerRefusal, headRules, fitRules, sizeRules}
+use Rattle.layout.specs.Header.{matrixSize, controlOf, bodyAt, headerOf, headerRefusal, headRules}
+use Rattle.layout.specs.Size.{fitRules, sizeRules}
 use Rattle.elements.specs.Elements.{headOf, deviationsAt, deviationCount, codesAt, presentCount, endAt}
 use Rattle.elements.specs.Formats.{deviationFormat, codeFormat}
 use Rattle.elements.specs.Numbers.{elementRule}

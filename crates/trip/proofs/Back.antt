@@ -1,9 +1,9 @@
 -- Reading back what was written: every rule passes, and each list is that of its numbers.
 -- Assumes nothing.
 use mathlib.Core.Path.{_≡_, refl, sym}
-use mathlib.Core.Bool.{Bool, true, false, _&&_, not}
+use mathlib.Core.Bool.{Bool, true, false, _&&_, not, and-false}
 use mathlib.Core.List.{List, _++_}
-use Prim.Native.Nat.{ℕ, zero, suc, _+_, _-_, _*_, _/_, _≤_, _<_}
+use Prim.Native.Nat.{ℕ, _+_, _-_, _*_, _/_, _≤_, _<_}
 use native.Mathlib.Omega.{arith}
 use lib.Dec.{eqb}
 use lib.ListN.{length}
@@ -11,10 +11,12 @@ use borrow.Author.Tests.{le-leb, le-ltb, ne-eqb}
 use Rattle.answers.specs.Table.{pick, passes}
 use Rattle.answers.specs.Lent.{tab}
 use Rattle.answers.proofs.Lent.{tab-same}
-use Rattle.layout.specs.Size.{maxRows, matrixSize, sizeRules, fitRules}
+use Rattle.layout.specs.Header.{matrixSize}
+use Rattle.layout.specs.Size.{maxRows, sizeRules, fitRules}
 use Rattle.layout.specs.Triangle.{slotsOf}
 use Rattle.elements.specs.Elements.{presentBefore, headOf, deviationCount}
-use Rattle.rules.specs.Rules.{inTurn, elementRules, roomRules}
+use Rattle.rules.specs.Rules.{elementRules, roomRules}
+use Rattle.rules.proofs.InTurn.{all-held}
 use Rattle.writer.specs.Pack.{element1, element2, formBytes}
 use Rattle.trip.specs.Found.{controlFor, HeadFound, BodyFound}
 use Rattle.trip.specs.Back.{Back}
@@ -31,17 +33,6 @@ size-passes : (sparse : Bool) (n R L : ℕ) → n ≤ maxRows → n * 4 ≤ R �
     → sizeRules n R (controlFor sparse L) ≡ passes
 size-passes true n R L rows d f v = rw (le-ltb maxRows n rows, le-ltb R (n * 4) d, le-ltb (8 * R) (slotsOf n) (v refl))
 size-passes false n R L rows d f v = rw (le-ltb maxRows n rows, le-ltb R (n * 4) d, le-ltb R (slotsOf n * L) (f refl))
-
--- elements that lie within the bytes
-in-turn : (bytes : List ℕ) (at size n : ℕ) → at + n * size ≤ length bytes → inTurn bytes at size passes n ≡ passes
-in-turn bytes at size zero h = refl
-in-turn bytes at size (suc n) h =
-    rw (in-turn bytes at size n (omega arith), le-ltb (length bytes - (at + n * size)) size (omega arith))
-
--- a test that fails, whatever stands before it
-fails : (b : Bool) → (b && false) ≡ false
-fails true = refl
-fails false = refl
 
 -- ---- bytes whose elements are found
 module _ (ds cs : List ℕ) (L : ℕ) (sparse : Bool) (rows : length ds ≤ maxRows) (count : length cs ≡ slotsOf (length ds)) (least : 1 ≤ L) (most : L ≤ 8)
@@ -74,14 +65,14 @@ module _ (ds cs : List ℕ) (L : ℕ) (sparse : Bool) (rows : length ds ≤ maxR
         head .control,
         head .size,
         head .body,
-        in-turn bytes deviationsFrom 4 n (omega (arith, whole)),
+        all-held bytes deviationsFrom 4 n (omega (arith, whole)),
         le-ltb (length bytes - (deviationsFrom + n * 4)) (present * L) (omega (arith, whole)),
         le-leb 1 L least,
         le-leb L 8 most,
-        in-turn bytes (deviationsFrom + n * 4) L present (omega (arith, whole)),
+        all-held bytes (deviationsFrom + n * 4) L present (omega (arith, whole)),
         whole,
         le-ltb (length bytes) (length bytes) (omega arith),
-        fails (sparse && not (eqb L 0)),
+        and-false (sparse && not (eqb L 0)),
       )
 
   -- l)

@@ -10,7 +10,8 @@ use Rattle.answers.specs.Lent.{over, tab}
 use Rattle.answers.specs.Table.{Answer, next}
 use Rattle.answers.proofs.Lent.{length-tab, getD-tab}
 use Rattle.answers.proofs.Next.{next-zero, next-passed}
-use Rattle.layout.specs.Size.{maxRows, matrixSize, controlOf, bodyAt, headRules, sizeRules, fitRules}
+use Rattle.layout.specs.Header.{matrixSize, controlOf, bodyAt, headRules}
+use Rattle.layout.specs.Size.{maxRows, sizeRules, fitRules}
 use Rattle.layout.specs.declared.pack.SdccFlp.{SdccFlp}
 use Rattle.layout.specs.Triangle.{slotOf, slotsOf, IsPair}
 use Rattle.layout.proofs.Fits.{fits-tells}

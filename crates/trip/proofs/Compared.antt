@@ -1,7 +1,7 @@
 -- A test of each of 0 to n-1, as a loop makes it.
 -- Assumes nothing.
 use mathlib.Core.Path.{_≡_, refl, sym}
-use mathlib.Core.Bool.{Bool, true, false, _&&_}
+use mathlib.Core.Bool.{Bool, true, false, and-false}
 use mathlib.Core.Logic.{inl, inr}
 use Prim.Native.Nat.{ℕ, zero, suc, _+_, _≤_, _<_}
 use native.Mathlib.Nat.{le-of-suc-le-suc, eq-or-lt-of-le}
@@ -10,17 +10,12 @@ use native.Mathlib.Omega.{arith}
 use Rattle.trip.specs.Compared.{every}
 
 -- ---- the test of each
--- a test that fails, whatever stands before it
-no-more : (b : Bool) → (b && false) ≡ false
-no-more true = refl
-no-more false = refl
-
 -- one that fails
 every-not : (n : ℕ) (b : ℕ → Bool) (k : ℕ) → k < n → b k ≡ false → every n b ≡ false
 every-not zero b k h e = absurd (omega arith)
 every-not (suc n) b k h e =
     elim (eq-or-lt-of-le (le-of-suc-le-suc h)) [
-      | inl q ↦ rw (← q, e) (no-more (every k b))
+      | inl q ↦ rw (← q, e) (and-false (every k b))
       | inr l ↦ rw (every-not n b k l e)
     ]
 

@@ -15,7 +15,8 @@ use Rattle.answers.proofs.Joined.{length-joined, joined-part}
 use Rattle.numbers.specs.Conversions.{converted}
 use Rattle.numbers.proofs.Bytes.{length-bytes}
 use Rattle.imapb.specs.Mapping.{codeOf}
-use Rattle.layout.specs.Size.{maxRows, controlOf, bodyAt}
+use Rattle.layout.specs.Header.{controlOf, bodyAt}
+use Rattle.layout.specs.Size.{maxRows}
 use Rattle.layout.specs.Triangle.{slotsOf}
 use Rattle.elements.specs.Elements.{part, presentBefore, headOf, deviationsAt, codesAt}
 use Rattle.slots.specs.Slots.{element3, element5, vectorByte, codeBytes}

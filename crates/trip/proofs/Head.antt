@@ -13,7 +13,7 @@ use borrow.Author.Tests.{le-leb, le-ltb}
 use Rattle.answers.specs.Table.{passes}
 use Rattle.numbers.proofs.BerOid.{read-tells, length-oid, round-trip}
 use Rattle.layout.specs.Control.{mode2}
-use Rattle.layout.specs.Size.{controlAt, matrixSize, bodyAt, headRules}
+use Rattle.layout.specs.Header.{controlAt, matrixSize, bodyAt, headRules}
 use Rattle.writer.specs.Pack.{element1, controlByte, element2}
 use Rattle.trip.specs.Found.{controlFor, HeadFound}
 

@@ -5,7 +5,8 @@ use Rattle.answers.specs.Listed.{InTable}
 use Rattle.imapb.specs.Tables.{rangeRule, imapbWritten, specialWritten}
 use Rattle.imapb.specs.declared.special.ImapbSpecial.{ImapbSpecial}
 use Rattle.layout.specs.declared.control.ParseControl.{ParseControl}
-use Rattle.layout.specs.Size.{headRules, sizeRules, fitRules}
+use Rattle.layout.specs.Header.{headRules}
+use Rattle.layout.specs.Size.{sizeRules, fitRules}
 use Rattle.elements.specs.declared.head.Head.{Head}
 use Rattle.rules.specs.Rules.{packRules, roomRules}
 use Rattle.plan.specs.Rules.{planRules}

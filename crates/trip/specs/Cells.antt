@@ -4,7 +4,7 @@ use mathlib.Core.Path.{_≡_}
 use mathlib.Core.List.{List}
 use Rattle.answers.specs.Table.{Answer}
 use Rattle.answers.specs.Lent.{over}
-use Rattle.layout.specs.Size.{matrixSize, controlOf, bodyAt}
+use Rattle.layout.specs.Header.{matrixSize, controlOf, bodyAt}
 use Rattle.layout.specs.Triangle.{slotOf, IsPair}
 use Rattle.elements.specs.Elements.{headOf, deviationsAt, codesAt}
 use Rattle.elements.specs.Elements.{deviationIn, correlationIn, deviations, correlations}

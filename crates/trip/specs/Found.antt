@@ -10,7 +10,7 @@ use Rattle.answers.specs.Lent.{joined}
 use Rattle.numbers.specs.Words.{bytesOf}
 use Rattle.imapb.specs.Mapping.{codeOf}
 use Rattle.layout.specs.declared.control.ParseControl.{ParseControl}
-use Rattle.layout.specs.Size.{matrixSize, controlOf, bodyAt, headRules}
+use Rattle.layout.specs.Header.{matrixSize, controlOf, bodyAt, headRules}
 use Rattle.elements.specs.Elements.{part, presentIn, presentBefore, headOf, deviationsAt, codesAt, endAt}
 use Rattle.slots.specs.Slots.{element3, element5}
 use Rattle.writer.specs.Pack.{element1, element2, element4}

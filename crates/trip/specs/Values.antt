@@ -9,7 +9,7 @@ use lib.Ieee.{binary32, binary64, ofBits, toBits}
 use Rattle.answers.specs.Table.{pick}
 use Rattle.numbers.specs.Conversions.{converted}
 use Rattle.imapb.specs.Mapping.{codeOf, valueOf, inRange}
-use Rattle.layout.specs.Size.{controlOf, bodyAt}
+use Rattle.layout.specs.Header.{controlOf, bodyAt}
 use Rattle.elements.specs.Elements.{headOf, deviationsAt, codesAt, deviationIn, correlationIn, presenceIn}
 use Rattle.slots.specs.Slots.{sent}
 

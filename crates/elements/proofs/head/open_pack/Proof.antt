@@ -11,7 +11,8 @@ use Rattle.answers.specs.Table.{Answer}
 use Rattle.elements.proofs.Opened.{unreadable-refused, short-refused, head-is, fit-within}
 use Rattle.elements.specs.Elements.{headOf, placesOf}
 use Rattle.layout.proofs.Peek.{body-within, fit-is}
-use Rattle.layout.specs.Size.{headerOf, fitRules}
+use Rattle.layout.specs.Header.{headerOf}
+use Rattle.layout.specs.Size.{fitRules}
 use Rattle.layout.specs.declared.header.Header.the-variants.{Open}
 use Rattle.elements.proofs.head.open_pack.Statement.{statement}
 use Rattle.elements.proofs.head.open_pack.Tie as tie

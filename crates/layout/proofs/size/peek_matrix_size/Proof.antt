@@ -8,7 +8,8 @@ use Rattle.answers.specs.Listed.{checked}
 use Rattle.answers.proofs.OneToOne.{refused-not-done}
 use Rattle.layout.specs.declared.header.Header.the-variants.{Open}
 use Rattle.layout.specs.declared.size.Peek.the-variants.{Size}
-use Rattle.layout.specs.Size.{headerOf, fitRules}
+use Rattle.layout.specs.Header.{headerOf}
+use Rattle.layout.specs.Size.{fitRules}
 use Rattle.layout.proofs.Peek.{opened, body-within, fit-is, not-open}
 use Rattle.layout.proofs.size.peek_matrix_size.Statement.{statement}
 use Rattle.layout.proofs.size.peek_matrix_size.Tie as tie
