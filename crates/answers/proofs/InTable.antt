@@ -17,6 +17,8 @@ use Rattle.answers.specs.declared.Refusal.the-variants.{
   BufferTooSmall,
   TooManyRows,
   NoSuchCell,
+  NoDeviation,
+  InvalidImapbParams,
 }
 
 pub in-done : (es : List Entry) → InTable (answer 0 es)
@@ -46,6 +48,12 @@ in-6 n = inr (TooManyRows n, refl)
 pub in-7 : (i j : ℕ) → InTable (answer 7 (wholes (i ∷ j ∷ [])))
 in-7 i j = inr (NoSuchCell i j, refl)
 
+pub in-8 : (row : ℕ) → InTable (answer 8 (wholes (row ∷ [])))
+in-8 row = inr (NoDeviation row, refl)
+
+pub in-9 : InTable (answer 9 [])
+in-9 = inr (InvalidImapbParams, refl)
+
 pub in-pick : (t : Bool) (a b : Answer) → InTable a → InTable b → InTable (pick t a b)
 in-pick true a b p q = p
 in-pick false a b p q = q
@@ -53,4 +61,4 @@ in-pick false a b p q = q
 pub in-next : (a b : Answer) → InTable a → InTable b → InTable (next a b)
 in-next a b p q = in-pick (eqb (a .number) 0) b a q p
 
-pub ruleset table = (in-done, in-1, in-2, in-3, in-3-bits, in-4, in-5, in-6, in-7, in-pick, in-next)
+pub ruleset table = (in-done, in-1, in-2, in-3, in-3-bits, in-4, in-5, in-6, in-7, in-8, in-9, in-pick, in-next)

@@ -26,7 +26,7 @@ of-each f g h r = rw (← (eta r)) (every cases (λ (c : Case cases). f (make c)
 
 -- no refusal is done
 pub refused-not-done : (r : Refusal) → eqb (listed r .number) 0 ≡ false
-refused-not-done = of-each (λ r. eqb (listed r .number) 0) (λ r. false) (search)
+refused-not-done = of-each (λ r. eqb (listed r .number) 0) (λ r. false) (search depth 12)
 
 -- the case's place in the enum, read off the answer: row 3 stands there twice, for whole numbers and for binary64
 abbrev shift : Bool → List Entry → ℕ → ℕ
@@ -39,7 +39,7 @@ abbrev rank : Answer → ℕ
 rank a = shift (ltb 3 (a .number)) (a .carries) (a .number)
 
 placed : (r : Refusal) → rank (listed r) ≡ place cases (as-values r)
-placed = of-each (λ r. rank (listed r)) (λ r. place cases (as-values r)) (search)
+placed = of-each (λ r. rank (listed r)) (λ r. place cases (as-values r)) (search depth 12)
 
 -- its numbers
 abbrev plain : Entry → ℕ
@@ -51,7 +51,7 @@ plains [] = []
 plains (e ∷ es) = plain e ∷ plains es
 
 valued : (r : Refusal) → plains (listed r .carries) ≡ values cases (as-values r)
-valued = of-each (λ r. plains (listed r .carries)) (λ r. values cases (as-values r)) (search)
+valued = of-each (λ r. plains (listed r .carries)) (λ r. values cases (as-values r)) (search depth 12)
 
 pub listed-one : (r s : Refusal) → listed r ≡ listed s → r ≡ s
 listed-one r s e =

@@ -12,6 +12,8 @@ use Rattle.answers.specs.declared.Refusal.the-variants.{
   BufferTooSmall,
   TooManyRows,
   NoSuchCell,
+  NoDeviation,
+  InvalidImapbParams,
 }
 use Rattle.answers.specs.declared.Check.{Check}
 use Rattle.answers.specs.declared.Check.the-variants as check
@@ -28,6 +30,8 @@ listed (UnsupportedImapbLength length) = answer 4 (wholes (length ∷ []))
 listed (BufferTooSmall needed got) = answer 5 (wholes (needed ∷ got ∷ []))
 listed (TooManyRows n) = answer 6 (wholes (n ∷ []))
 listed (NoSuchCell i j) = answer 7 (wholes (i ∷ j ∷ []))
+listed (NoDeviation row) = answer 8 (wholes (row ∷ []))
+listed InvalidImapbParams = answer 9 []
 
 abbrev pub written : Written → Answer
 written (Done n) = answer 0 (wholes (n ∷ []))

@@ -1,7 +1,7 @@
 //! Document 01's table of answers: the refusals, and the answer of whatever writes into lent memory.
 pub mod row;
 
-// Rows 1 to 7, in the table's order. A binary64 is carried as its bits, so that a refused NaN comes back bit for bit.
+// Rows 1 to 9, in the table's order. A binary64 is carried as its bits, so that a refused NaN comes back bit for bit.
 pub enum Refusal {
     // 1, in bytes
     TruncatedField { needed: usize, got: usize },
@@ -19,6 +19,10 @@ pub enum Refusal {
     TooManyRows { n: usize },
     // 7
     NoSuchCell { i: u64, j: u64 },
+    // 8: the code of that deviation is no value
+    NoDeviation { row: usize },
+    // 9
+    InvalidImapbParams,
 }
 
 // What a rule, or a run of rules, answers.

@@ -33,6 +33,8 @@ pub fn row_of(refusal: Refusal) -> Row
         Refusal::BufferTooSmall { needed, got } => whole_row(5, 2, [needed as u64, got as u64, 0]),
         Refusal::TooManyRows { n } => whole_row(6, 1, [n as u64, 0, 0]),
         Refusal::NoSuchCell { i, j } => whole_row(7, 2, [i, j, 0]),
+        Refusal::NoDeviation { row } => whole_row(8, 1, [row as u64, 0, 0]),
+        Refusal::InvalidImapbParams => whole_row(9, 0, [0, 0, 0]),
     }
 }
 
