@@ -16,6 +16,7 @@ use Rattle.imapb.specs.Mapping.{codeOf}
 use Rattle.imapb.specs.Special.{specialCode}
 use Rattle.imapb.specs.Tables.{imapbListed}
 use Rattle.imapb.proofs.decode.decode_imapb.Reads as decode-imapb
+use Rattle.imapb.proofs.decode.unless_special.Reads as unless-special
 use Rattle.imapb.proofs.encode.check_range.Reads as check-range
 use Rattle.imapb.proofs.encode.imapb_code.Reads as imapb-code
 use Rattle.imapb.proofs.encode.encode_imapb.Reads as encode-imapb
@@ -23,7 +24,7 @@ use Rattle.imapb.proofs.mapping.imapb_mapping.Reads as imapb-mapping
 use Rattle.imapb.proofs.special.encode_imapb_special.Reads as encode-imapb-special
 
 -- what determines the listed answer determines the enum
-read-one : (r r′ : ImapbRead) → imapbListed r ≡ imapbListed r′ → r ≡ r′
+pub read-one : (r r′ : ImapbRead) → imapbListed r ≡ imapbListed r′ → r ≡ r′
 read-one (Done d) (Done d′) e = cc
 read-one (Done d) (Refused r′) e = absurd (let z : _≡_ {A = ℕ} 0 1 = cc in omega arith)
 read-one (Refused r) (Done d′) e = absurd (let z : _≡_ {A = ℕ} 0 1 = cc in omega arith)
@@ -31,6 +32,9 @@ read-one (Refused r) (Refused r′) e = let l : listed r ≡ listed r′ = cc in
 
 pub decode-imapb-one : OneResult decode-imapb.Learnt
 decode-imapb-one κs a r r′ s s′ p q = read-one r r′ (p ∙ sym q)
+
+pub unless-special-one : OneResult unless-special.Learnt
+unless-special-one κs a r r′ s s′ p q = p ∙ sym q
 
 pub check-range-one : OneResult check-range.Learnt
 check-range-one κs a r r′ s s′ p q = checked-one r r′ (p ∙ sym q)

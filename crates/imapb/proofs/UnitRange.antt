@@ -25,7 +25,7 @@ divides (negsuc k) l a h =
     let e = apart a l (suc k) d in
     sym (ap (λ (x : ℕ). x / 2 ^ suc k * 2 ^ suc k) (sym e) ∙ ap (λ (x : ℕ). x * 2 ^ suc k) (mul-div-cancel (a * 2 ^ (l - suc k)) (pow-pos (suc k))) ∙ e)
 
-counted : (f : Format) (s : Bool) (m : ℕ) (e : ℤ) → T (fits f (fin s m e)) → Counts f (fin s m e) s (m * up e * 2 ^ low f / down e)
+pub counted : (f : Format) (s : Bool) (m : ℕ) (e : ℤ) → T (fits f (fin s m e)) → Counts f (fin s m e) s (m * up e * 2 ^ low f / down e)
 unfolding fits
 counted f s zero e t = (refl, simp (zero-mul, zero-div))
 counted f s (suc m) e t =

@@ -12,10 +12,11 @@ use lib.Dec.{ltb, lit<}
 use lib.IntN.{ℤ, pos}
 use lib.Pow.{pow-add, pow-pos, pow-mono, shl-shr}
 use lib.Ieee.{Float, nan, inf, fin, Format, prec, low, up, down, size, round, sum, add, neg, mul, div, ofInt}
-use lib.Ieee.Fits.{down-pos, two, two-le-pos}
-use lib.Ieee.Exact.{HasValue, round-exact}
+use lib.Ieee.Fits.{down-pos, two, two-le-pos, round-is}
+use lib.Ieee.Exact.{HasValue, round-exact, units-val}
 use lib.Ieee.Nearest.{closest, closest-same}
-use lib.Ieee.Scale.{round-same, round-val, grid, overflow}
+use lib.Ieee.Order.{drop, kept}
+use lib.Ieee.Scale.{round-same, grid, overflow}
 use Rattle.imapb.specs.Mapping.{power}
 use Rattle.imapb.proofs.Rounded.{cut, rounded}
 
@@ -29,15 +30,19 @@ by-value P s a c k nan h = absurd h
 by-value P s a c k (inf t) h = absurd h
 by-value P s a c k (fin t m e) h = subst (λ (r : Bool). P (fin r m e)) (sym (h .0)) (k m e (h .1))
 
--- ---- rounding
-pub round-counts : (f : Format) (n : ℕ) → rounded (prec f) n < overflow f → Counts f (round f false n (2 ^ low f)) false (rounded (prec f) n)
-round-counts f n h =
+-- ---- rounding, with either sign
+pub round-signed : (f : Format) (s : Bool) (n : ℕ) → rounded (prec f) n < overflow f → Counts f (round f s n (2 ^ low f)) s (rounded (prec f) n)
+round-signed f s n h =
     let l = low f in
     let k = cut (prec f) n in
     let e : grid f n (2 ^ l) ≡ rounded (prec f) n =
     ap (λ (z : ℕ). closest (n * 2 ^ l) (2 ^ l * 2 ^ (size z - prec f)) * 2 ^ (size z - prec f)) (shl-shr n l)
     ∙ ap (λ (z : ℕ). z * 2 ^ k) (closest-same (n * 2 ^ l) (2 ^ l * 2 ^ k) n (2 ^ k) (mul-pos (pow-pos l) (pow-pos k)) (pow-pos k) (mul-assoc n (2 ^ l) (2 ^ k))) in
-    subst (λ (g : ℕ). Counts f (round f false n (2 ^ l)) false g) e (round-val f n (2 ^ l) (lt-of-le-of-lt (le-of-eq e) h))
+    subst (λ (g : ℕ). Counts f (round f s n (2 ^ l)) s g) e
+    (rw (round-is f s n (2 ^ l)) (units-val f s (kept (prec f) (n * 2 ^ l) (2 ^ l)) (drop (prec f) (n * 2 ^ l) (2 ^ l)) (lt-of-le-of-lt (le-of-eq e) h)))
+
+pub round-counts : (f : Format) (n : ℕ) → rounded (prec f) n < overflow f → Counts f (round f false n (2 ^ low f)) false (rounded (prec f) n)
+round-counts f = round-signed f false
 
 -- a number of `prec` digits, or the carry past them, is kept as it is
 pub exact : (f : Format) (s : Bool) (q j : ℕ) → q ≤ 2 ^ prec f → q * 2 ^ j < overflow f → Counts f (round f s (q * 2 ^ j) (2 ^ low f)) s (q * 2 ^ j)
@@ -79,7 +84,7 @@ sub-mul a b c = mul-comm (a - b) c ∙ mul-sub c a b ∙ ap₂ (λ (x y : ℕ). 
 
 -- a / c and b / c are a' / c' and b' / c'
 module _ (a b c a' b' c' : ℕ) (C : 0 < c) (C' : 0 < c') (p : a * c' ≡ a' * c) (q : b * c' ≡ b' * c) where
-  same-order : ltb a b ≡ ltb a' b'
+  pub same-order : ltb a b ≡ ltb a' b'
   same-order =
       elim (decLe b a) [
         | yes h ↦ le-ltb a b h ∙ sym (le-ltb a' b' (le-of-mul-le-mul-right (omega (arith, mul-le-mul-right c' h)) C))

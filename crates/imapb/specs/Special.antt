@@ -63,7 +63,11 @@ specialReading L f p y =
     (ReservedSpecial y))))))))
 
 -- ---- what a code reads as
+-- a special or a reserved pattern where its top two bits are set, and otherwise a number, over whatever range
+abbrev pub unlessSpecial : ℕ → ℕ → DecodedImapb → DecodedImapb
+unlessSpecial L y number =
+    pick (eqb (y / 2 ^ (8 * L - 2)) 0b11) (specialReading L (y / 2 ^ (8 * L - 5)) (y % 2 ^ (8 * L - 5)) y) number
+
+-- over the range -1 to 1
 abbrev pub reading : ℕ → ℕ → DecodedImapb
-reading L y =
-    pick (eqb (y / 2 ^ (8 * L - 2)) 0b11) (specialReading L (y / 2 ^ (8 * L - 5)) (y % 2 ^ (8 * L - 5)) y)
-    (pick (leb y (topOf L)) (Value (valueOf L y)) (OutOfRange (valueOf L y)))
+reading L y = unlessSpecial L y (pick (leb y (topOf L)) (Value (valueOf L y)) (OutOfRange (valueOf L y)))

@@ -2,10 +2,11 @@
 use crate::special::ImapbSpecial;
 use answers::Refusal;
 ghost use mathlib.Core.Path.{_≡_};
-ghost use Prim.Native.Nat.{_≤_, _^_, _*_, _-_, _/_};
+ghost use Prim.Native.Nat.{_≤_};
+ghost use Rattle.answers.specs.Table.{pick};
 ghost use Rattle.imapb.specs.Mapping.{valueOf};
-ghost use Rattle.imapb.specs.Special.{overflowReading, specialReading, reading};
-ghost use Rattle.imapb.specs.Tables.{imapbListed, imapbRead};
+ghost use Rattle.imapb.specs.Special.{overflowReading, specialReading, unlessSpecial, reading};
+ghost use Rattle.imapb.specs.Tables.{imapbListed, supported, imapbRead};
 
 // Under the Rust's names: a value, a special, a pattern that the tables reserve with its y, or a number above the
 // range.
@@ -71,19 +72,35 @@ fn overflow_signal(length: usize, payload: u64, y: u64) -> DecodedImapb
     }
 }
 
-// What the code y reads as, whose first byte is given.
-fn reading_of(length: usize, first: u8, y: u64) -> DecodedImapb
-    requires { ⌜ (1 ≤ length) × (length ≤ 8) × (y / 2 ^ (8 * length - 8) ≡ first) ⌝ }
+// A special or a reserved pattern where the top two bits of a code are set, and otherwise the number given, whatever
+// range it is of.
+pub fn unless_special(length: usize, y: u64, number: DecodedImapb) -> DecodedImapb
+    ensures { λ r. ⌜ r ≡ pick (supported length) (unlessSpecial length y number) number ⌝ }
+{
+    if length < 1 {
+        return number;
+    }
+    if 8 < length {
+        return number;
+    }
+    let unit = crate::top_code(length) / 16;
+    let family = y / unit;
+    if family / 8 == 0b11 {
+        return classify_imapb_special(length, family as u8, y % unit, y);
+    }
+    number
+}
+
+// What the code y reads as.
+fn reading_of(length: usize, y: u64) -> DecodedImapb
+    requires { ⌜ (1 ≤ length) × (length ≤ 8) ⌝ }
     ensures { λ r. ⌜ r ≡ reading length y ⌝ }
 {
-    if 0b1100_0000 <= first {
-        return classify_imapb_special(length, first / 8, y % (crate::top_code(length) / 16), y);
-    }
     let value = value_of(length, y);
     if y <= crate::top_code(length) {
         DecodedImapb::Value(value)
     } else {
-        DecodedImapb::OutOfRange { decoded: value }
+        unless_special(length, y, DecodedImapb::OutOfRange { decoded: value })
     }
 }
 
@@ -103,5 +120,5 @@ pub fn decode_imapb(length: usize, bytes: &[u8]) -> ImapbRead
             got: bytes.len(),
         });
     }
-    ImapbRead::Done(reading_of(length, bytes[0], numbers::words::read_be(bytes)))
+    ImapbRead::Done(reading_of(length, numbers::words::read_be(bytes)))
 }

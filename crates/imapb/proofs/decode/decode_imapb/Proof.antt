@@ -1,12 +1,11 @@
 -- `decode::decode_imapb` meets its contract.
 -- Assumes nothing.
-use mathlib.Core.Path.{sym, ap, ap₂, _∙_}
-use Prim.Native.Nat.{ℕ, _-_, _*_, _/_, _^_}
+use mathlib.Core.Path.{ap, _∙_}
+use Prim.Native.Nat.{ℕ}
 use native.Mathlib.Omega.{arith}
 use borrow.Author.Needs.{needs}
 use borrow.Author.Tests.{eq-eqb, ne-eqb}
 use lib.ListN.{length}
-use Rattle.numbers.proofs.Bytes.{first-byte}
 use Rattle.imapb.specs.Special.{reading}
 use Rattle.imapb.specs.Tables.{reads}
 use Rattle.imapb.proofs.Length.{too-short, too-long, is-supported}
@@ -24,22 +23,16 @@ returns-3 c =
     let a = c .before .before .before .before .args in
     rw (is-supported (a .length) (omega arith) (omega arith), ne-eqb (length (a .bytes .now)) (a .length) (c .if3 .taken))
 
-shared-slice-read-reading-of : tie.Need-shared-slice-read-reading-of
-shared-slice-read-reading-of c = search needs
-
 read-be-requires : tie.Need-read-be-requires
 read-be-requires c κs = search needs
 
 reading-of-requires : tie.Need-reading-of-requires
-reading-of-requires c κs =
-    let e = c .before .before .if3 .left in
-    let b = first-byte (c .before .before .before .before .before .before .args .bytes .now) (omega arith) (omega arith) (c .before .shared-slice-known2 .given 0 .fits) in
-    (omega arith, omega arith, ap₂ (λ (y n : ℕ). y / 2 ^ (8 * n - 8)) (c .read-be .ensures) (sym e) ∙ b)
+reading-of-requires c κs = search needs
 
 returns-4 : tie.Need-returns-4
 returns-4 c =
-    let a = c .before .before .before .before .before .before .before .args in
-    rw (is-supported (a .length) (omega arith) (omega arith), eq-eqb (length (a .bytes .now)) (a .length) (c .before .before .before .if3 .left))
+    let a = c .before .before .before .before .before .before .args in
+    rw (is-supported (a .length) (omega arith) (omega arith), eq-eqb (length (a .bytes .now)) (a .length) (c .before .before .if3 .left))
     (ap reads (c .reading-of .ensures ∙ ap (λ (y : ℕ). reading (a .length) y) (c .before .read-be .ensures)))
 
 pub decode-imapb-spec : {M : Type 1} → statement M
@@ -49,7 +42,6 @@ decode-imapb-spec =
     returns
     returns-2
     returns-3
-    shared-slice-read-reading-of
     read-be-requires
     reading-of-requires
     returns-4)
