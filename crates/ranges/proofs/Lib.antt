@@ -1,0 +1,17 @@
+pub mod Spanned
+pub mod Order
+pub mod Power
+pub mod Field
+pub mod Falls
+pub mod Scaled
+pub mod ExactFloor
+pub mod Offset
+pub mod Top
+pub mod Step
+pub mod Sums
+pub mod Number
+pub mod Reading
+pub mod Instance
+pub mod Facts
+pub mod Examples
+pub mod OneAnswer
