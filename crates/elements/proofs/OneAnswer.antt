@@ -19,6 +19,7 @@ use Rattle.elements.proofs.number.correlation_at.Reads as correlation-a
 use Rattle.elements.proofs.number.deviation_at.Reads as deviation-at
 use Rattle.elements.proofs.number.left.Reads as left
 use Rattle.elements.proofs.number.slot_at.Reads as slot-at
+use Rattle.elements.proofs.number.value_bits.Reads as value-bits
 use Rattle.elements.proofs.present.presence_of.Reads as presence-of
 use Rattle.elements.proofs.present.present_count.Reads as present-count
 
@@ -49,6 +50,9 @@ check-number-one κs a r r′ s s′ p q = checked-one r r′ (p ∙ sym q)
 
 pub left-one : OneResult left.Learnt
 left-one κs a r r′ s s′ p q = p ∙ sym q
+
+pub value-bits-one : OneResult value-bits.Learnt
+value-bits-one κs a r r′ s s′ p q = p ∙ sym q
 
 pub deviation-at-one : OneResult deviation-at.Learnt
 deviation-at-one κs a r r′ s s′ p q = number-one r r′ (p ∙ sym q)

@@ -90,7 +90,7 @@ pub fn deviation_at(bytes: &[u8], at: usize, control: ParseControl) -> Number
 }
 
 // The bits of a value, and 0.0 for everything else.
-fn value_bits(decoded: DecodedImapb) -> u64
+pub fn value_bits(decoded: DecodedImapb) -> u64
     ensures { λ r. ⌜ r ≡ valueBits decoded ⌝ }
 {
     let DecodedImapb::Value(x) = decoded else {

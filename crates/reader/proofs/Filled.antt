@@ -10,14 +10,16 @@ use native.Mathlib.Omega.{arith}
 use borrow.Author.Tests.{le-ltb}
 use lib.ListN.{length}
 use Rattle.answers.specs.declared.Refusal.{Refusal}
-use Rattle.answers.specs.Table.{Answer, pick, passes}
+use Rattle.answers.specs.Table.{Answer, pick}
 use Rattle.layout.specs.declared.control.ParseControl.{ParseControl}
 use Rattle.elements.specs.declared.number.Number.{Number}
 use Rattle.elements.specs.declared.number.Number.the-variants.{Bits, Refused}
-use Rattle.elements.specs.Elements.{part, codeBits, presentIn, presentBefore, deviationIn, correlationIn, presenceIn}
+use Rattle.elements.specs.Elements.{part, codeBits, presentIn, presentBefore, correlationIn, presenceIn}
 use Rattle.elements.specs.Held.{SlotsHeld}
-use Rattle.elements.specs.Numbers.{Read, bits, numberListed, element, deviationNumber, slotNumber}
-use Rattle.elements.specs.Formats.{deviationFormat}
+use Rattle.elements.specs.Numbers.{Read, bits, numberListed, element, slotNumber}
+use Rattle.elements.specs.Formats.{codeFormat}
+use Rattle.deviations.specs.Form.{Form, formFormat, formNumber}
+use Rattle.reader.specs.Rows.{RowsHeld, rowPart, formIn}
 use Rattle.elements.proofs.Vector.{present-more, present-le, present-grows}
 
 -- ---- what a turn has: the number that it reads, and where it moves on to
@@ -35,24 +37,23 @@ module _ {bytes : List ℕ} {number : Read} {value moved next : ℕ} (t : Turn b
   turn-never h = let l = ap numberListed h in let b = t .read in let z : _≡_ {A = ℕ} 0 1 = cc in omega arith
 
 -- an element that ends within the bytes, in a format that is read
-element-held : (bytes : List ℕ) (at size value : ℕ) {format : Answer} → at + size ≤ length bytes → format ≡ passes
+element-held : (bytes : List ℕ) (at size : ℕ) (format : Answer) (value : ℕ) → at + size ≤ length bytes → format .number ≡ 0
     → element bytes at size format value ≡ bits value
-element-held bytes at size value h f = rw (le-ltb (length bytes - at) size (omega arith), f)
+element-held bytes at size format value h f = rw (le-ltb (length bytes - at) size (omega arith), f)
 
 pub ends : {i n : ℕ} (at size : ℕ) → i < n → at + i * size + size ≤ at + n * size
 ends {i} at size h = omega (arith, suc-mul i size, mul-le-mul-right size h)
 
-module _ (bytes : List ℕ) (at : ℕ) (c : ParseControl) where
+module _ (bytes : List ℕ) (at : ℕ) (c : ParseControl) (f : Form) where
   abbrev pub DeviationTurn : ℕ → ℕ → Type 0
-  DeviationTurn i next = Turn bytes (deviationNumber bytes next c) (deviationIn bytes at c i) (next + c .slen) (at + (i + 1) * c .slen)
+  DeviationTurn i next = Turn bytes (formNumber bytes next c f i) (formIn bytes at c f i) (next + c .slen) (at + (i + 1) * c .slen)
 
-  pub deviation-turn : {count i next : ℕ} → at + count * c .slen ≤ length bytes → (0 < count → deviationFormat c ≡ passes)
-      → i < count → next ≡ at + i * c .slen → DeviationTurn i next
-  deviation-turn {i = i} h f l e =
-      let w : at + i * c .slen + c .slen ≤ length bytes = omega (arith, ends at (c .slen) l) in
+  pub deviation-turn : {count i next : ℕ} → RowsHeld bytes at c f count → i < count → next ≡ at + i * c .slen → DeviationTurn i next
+  deviation-turn {i = i} h l e =
+      let w : at + i * c .slen + c .slen ≤ length bytes = omega (arith, h .whole, ends at (c .slen) l) in
       rw (e, add-one)
       (record {
-        read = element-held bytes (at + i * c .slen) (c .slen) (deviationIn bytes at c i) w (f (omega arith));
+        read = element-held bytes (at + i * c .slen) (c .slen) (formFormat f c i (rowPart bytes at c f i)) (formIn bytes at c f i) w (h .each i l);
         on = omega (arith, suc-mul i (c .slen));
         within = w;
       })
@@ -81,7 +82,7 @@ module _ (bytes : List ℕ) (vector codes : ℕ) (c : ParseControl) where
     slot-held true e =
         let more : presentBefore bytes vector c k < presentBefore bytes vector c slots =
         omega (arith, rw e at (present-more bytes vector c k), present-grows bytes vector c l) in
-        element-held bytes (codeAt k) (c .clen) (codeBits c (part bytes (codeAt k) (c .clen))) (omega (arith, h .whole, ends codes (c .clen) more)) (h .format (omega arith))
+        element-held bytes (codeAt k) (c .clen) (codeFormat c) (codeBits c (part bytes (codeAt k) (c .clen))) (omega (arith, h .whole, ends codes (c .clen) more)) (ap (λ (a : Answer). a .number) (h .format (omega arith)))
 
     pub slot-turn : {next p : ℕ} → next ≡ codeAt k → p ≡ presenceIn bytes vector c k → SlotTurn k next p
     slot-turn e q =

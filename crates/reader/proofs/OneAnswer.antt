@@ -1,5 +1,4 @@
--- No second answer meets the contract of `decode_sdcc_flp`: two that do are the same, with what they leave in lent
--- memory.
+-- No second answer meets the contract of a reader: two that do are the same, with what they leave in lent memory.
 -- Assumes nothing.
 use mathlib.Core.Path.{_≡_, refl, sym, ap, _∙_}
 use mathlib.Core.List.{List}
@@ -12,9 +11,14 @@ use Rattle.answers.proofs.OneToOne.{listed-one, done-not-refused}
 use Rattle.layout.specs.declared.pack.SdccFlp.{SdccFlp}
 use Rattle.reader.specs.declared.read.ReadAnswer.{ReadAnswer}
 use Rattle.reader.specs.declared.read.ReadAnswer.the-variants.{Done, Refused}
-use Rattle.elements.specs.Elements.{headOf, deviations, correlations, presence}
+use Rattle.elements.specs.Elements.{headOf, correlations, presence}
+use Rattle.deviations.specs.declared.form.DeviationRange.{DeviationRange}
+use Rattle.deviations.specs.declared.form.DeviationRange.the-variants.{Unknown, Known}
+use Rattle.deviations.specs.Range.{deviationsOver}
 use Rattle.reader.specs.Listed.{packAnswer, readListed}
+use Rattle.reader.proofs.Whole.{Meets}
 use Rattle.reader.proofs.read.decode_sdcc_flp.Reads as decode-sdcc-flp
+use Rattle.reader.proofs.read.decode_sdcc_flp_in.Reads as decode-sdcc-flp-in
 
 -- what determines the listed answer determines the enum
 pub pack-one : (p p′ : SdccFlp) → packAnswer p ≡ packAnswer p′ → p ≡ p′
@@ -34,11 +38,19 @@ read-one (Refused r) (Refused r′) e = ap Refused (listed-one r r′ e)
 left-one : (front lent : List ℕ) {x y : Answer} {l m : List ℕ} → x ≡ y → l ≡ leaves x front lent → m ≡ leaves y front lent → l ≡ m
 left-one front lent e p q = p ∙ ap (λ (a : Answer). leaves a front lent) e ∙ sym q
 
+-- what is left by two answers that are listed alike
+module _ (range : DeviationRange) (bytes ds cs ps : List ℕ) {r r′ : ReadAnswer} {l l′ m m′ n n′ : List ℕ} where
+  both-one : Meets r range bytes ds cs ps l m n → Meets r′ range bytes ds cs ps l′ m′ n′ → (r ≡ r′) × (_≡_ {A = List ℕ × List ℕ × List ℕ} (l, m, n) (l′, m′, n′))
+  both-one p q =
+      let e = p .0 ∙ sym (q .0) in
+      let d = left-one (deviationsOver range bytes (headOf bytes)) ds e (p .1) (q .1) in
+      let c = left-one (correlations bytes (headOf bytes)) cs e (p .2) (q .2) in
+      let b = left-one (presence bytes (headOf bytes)) ps e (p .3) (q .3) in
+      (read-one r r′ e, λ i. (d i, c i, b i))
+
 pub decode-sdcc-flp-one : OneAnswer {L = List ℕ × List ℕ × List ℕ} decode-sdcc-flp.Learnt (λ κs s. (now (s .1 .0), now (s .1 .1 .0), now (s .1 .1 .1 .0)))
-decode-sdcc-flp-one κs a r r′ s s′ p q =
-    let bytes = now (a .0) in
-    let e = p .0 ∙ sym (q .0) in
-    let d = left-one (deviations bytes (headOf bytes)) (now (a .1 .0)) e (p .1) (q .1) in
-    let c = left-one (correlations bytes (headOf bytes)) (now (a .1 .1 .0)) e (p .2) (q .2) in
-    let b = left-one (presence bytes (headOf bytes)) (now (a .1 .1 .1 .0)) e (p .3) (q .3) in
-    (read-one r r′ e, λ i. (d i, c i, b i))
+decode-sdcc-flp-one κs a r r′ s s′ p q = both-one Unknown (now (a .0)) (now (a .1 .0)) (now (a .1 .1 .0)) (now (a .1 .1 .1 .0)) p q
+
+pub decode-sdcc-flp-in-one : OneAnswer {L = List ℕ × List ℕ × List ℕ} decode-sdcc-flp-in.Learnt (λ κs s. (now (s .1 .1 .1 .0), now (s .1 .1 .1 .1 .0), now (s .1 .1 .1 .1 .1 .0)))
+decode-sdcc-flp-in-one κs a r r′ s s′ p q =
+    both-one (Known (a .1 .0) (a .1 .1 .0)) (now (a .0)) (now (a .1 .1 .1 .0)) (now (a .1 .1 .1 .1 .0)) (now (a .1 .1 .1 .1 .1 .0)) p q

@@ -1,4 +1,5 @@
 pub mod Rules
 pub mod Listed
 pub mod Read
+pub mod Rows
 pub mod Fill

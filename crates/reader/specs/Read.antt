@@ -4,6 +4,11 @@ use mathlib.Core.List.{List}
 use Rattle.answers.specs.Table.{Answer}
 use Rattle.answers.specs.Lent.{leaves}
 use Rattle.elements.specs.Elements.{headOf, deviations, correlations, presence}
+use Rattle.deviations.specs.declared.form.DeviationRange.{DeviationRange}
+use Rattle.deviations.specs.Range.{deviationsOver}
+
+abbrev pub leftDeviationsIn : DeviationRange → Answer → List ℕ → List ℕ → List ℕ
+leftDeviationsIn range a bytes lent = leaves a (deviationsOver range bytes (headOf bytes)) lent
 
 module _ (a : Answer) (bytes lent : List ℕ) where
   abbrev pub leftDeviations : List ℕ

@@ -28,6 +28,7 @@ use Rattle.layout.proofs.RowByRow.{slots-mono}
 use Rattle.elements.specs.Elements.{headOf, deviationCount, deviations as deviationsOf, correlations as correlationsOf, presence as presenceOf, presentIn}
 use Rattle.reader.specs.Listed.{packAnswer, readListed}
 use Rattle.reader.specs.Rules.{done, readAnswer}
+use Rattle.deviations.specs.declared.form.DeviationRange.the-variants.{Unknown}
 use Rattle.rules.specs.Rules.{elementRules, roomRules}
 use Rattle.reader.specs.declared.read.ReadAnswer.{ReadAnswer}
 use Rattle.reader.specs.declared.read.ReadAnswer.the-variants.{Done, Refused}
@@ -46,15 +47,15 @@ module _ (bytes : List ℕ) where
   fromRooms = next (roomRules (headOf bytes) maxRows maxSlots maxSlots) (done (headOf bytes))
 
   abbrev fromElements : Answer
-  fromElements = next (elementRules bytes (headOf bytes)) fromRooms
+  fromElements = next (elementRules Unknown bytes (headOf bytes)) fromRooms
 
   -- no rule refused, so that it carries N, the deviation count and M
   is-done : answered .number ≡ 0 → answered ≡ done (headOf bytes)
   is-done z =
       let p = next-zero (fitRules bytes) fromElements z in
-      let q = next-zero (elementRules bytes (headOf bytes)) fromRooms (p .1) in
+      let q = next-zero (elementRules Unknown bytes (headOf bytes)) fromRooms (p .1) in
       let r = next-zero (roomRules (headOf bytes) maxRows maxSlots maxSlots) (done (headOf bytes)) (q .1) in
-      next-passed (fitRules bytes) fromElements (p .0) ∙ next-passed (elementRules bytes (headOf bytes)) fromRooms (q .0)
+      next-passed (fitRules bytes) fromElements (p .0) ∙ next-passed (elementRules Unknown bytes (headOf bytes)) fromRooms (q .0)
       ∙ next-passed (roomRules (headOf bytes) maxRows maxSlots maxSlots) (done (headOf bytes)) (r .0)
 
 -- the second of two tests that both fail
@@ -129,7 +130,7 @@ pub record Lent (bytes : List ℕ) (r : ReadAnswer) (ds cs ps : List ℕ) : Type
 
 -- as the reader's contract gives it
 pub was-lent : (bytes a b c : List ℕ) → isTooBig bytes ≡ false → maxRows ≡ length a → maxSlots ≡ length b → maxSlots ≡ length c
-    → (r : ReadAnswer) {ds cs ps : List ℕ} → Meets r bytes a b c ds cs ps → Lent bytes r ds cs ps
+    → (r : ReadAnswer) {ds cs ps : List ℕ} → Meets r Unknown bytes a b c ds cs ps → Lent bytes r ds cs ps
 was-lent bytes a b c ok la lb lc r m =
     record {
       small = ok;

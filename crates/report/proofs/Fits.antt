@@ -106,9 +106,9 @@ few-head Unreadable = few-answer _ _ tt
 few-head Short = few-answer _ _ tt
 few-head (Open n control body) = few-answer _ _ tt
 
-few-turns : (bytes : List ℕ) (at size : ℕ) (format : Answer) → Few format → (n : ℕ) → Few (inTurn bytes at size format n)
+few-turns : (bytes : List ℕ) (at size : ℕ) (format : ℕ → Answer) → ((i : ℕ) → Few (format i)) → (n : ℕ) → Few (inTurn bytes at size format n)
 few-turns bytes at size format f zero = record { most = omega arith }
-few-turns bytes at size format f (suc n) = let q = few-turns bytes at size format f n in search (few-answer, few-pick)
+few-turns bytes at size format f (suc n) = let q = few-turns bytes at size format f n in let p = f n in search (few-answer, few-pick)
 
 -- and so is the reader's, whatever it is
 pub few-read : (bytes : List ℕ) (ds cs ps : ℕ) → Few (readAnswer bytes ds cs ps)

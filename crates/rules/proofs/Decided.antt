@@ -1,10 +1,10 @@
--- Rules h) to k) as the reader decides them: h) and j) by their first element.
+-- Rules h) to k) as the reader decides them: h) by the form of the deviations, it and j) by their first element.
 -- Assumes nothing.
 use mathlib.Core.Path.{_≡_, refl}
 use mathlib.Core.Bool.{Bool, true, false, not, _||_, and-false}
 use mathlib.Core.List.{List, [], _∷_}
 use mathlib.Core.Logic.{inl, inr}
-use Prim.Native.Nat.{ℕ, _-_, _*_, _≤_, _<_}
+use Prim.Native.Nat.{ℕ, zero, suc, _+_, _-_, _*_, _≤_, _<_}
 use native.Mathlib.Nat.{mul-zero}
 use native.Mathlib.Omega.{arith}
 use borrow.Author.Tests.{lt-ltb, le-ltb, ne-eqb}
@@ -14,11 +14,16 @@ use Rattle.answers.specs.Table.{Answer, answer, short, wholes, pick, passes}
 use Rattle.imapb.specs.Tables.{supported}
 use Rattle.layout.specs.declared.control.ParseControl.{ParseControl}
 use Rattle.elements.specs.declared.head.Head.{Head}
-use Rattle.elements.specs.Elements.{deviationsAt, deviationCount, codesAt, presentCount, isIeee, ieee, part, codeBits}
+use Rattle.elements.specs.Elements.{codesAt, presentCount, isIeee, ieee, part, codeBits}
 use Rattle.rules.specs.Turns.{turnsRule}
-use Rattle.elements.specs.Numbers.{deviationNumber, correlationNumber}
+use Rattle.elements.specs.Numbers.{correlationNumber}
 use Rattle.elements.specs.Formats.{deviationFormat, codeFormat}
-use Rattle.rules.specs.Rules.{codesRule, ruleH, ruleJ}
+use Rattle.deviations.specs.declared.form.DeviationRange.{DeviationRange}
+use Rattle.deviations.specs.Range.{lentRule, formatOver}
+use Rattle.deviations.specs.Form.{plain, formOf, formNumber}
+use Rattle.deviations.proofs.Formed.{form-rule}
+use Rattle.rules.specs.Decided.{formRule}
+use Rattle.rules.specs.Rules.{inTurn, codesRule, ruleJ}
 use Rattle.rules.proofs.InTurn.{Format, in-turn}
 
 -- ---- rule i), as the reader tests it
@@ -46,13 +51,20 @@ code-format c =
     (either (supported (c .clen)) passes (answer 4 (wholes (c .clen ∷ []))) (inl refl) (inr refl))
     (either (isIeee (c .clen)) passes (answer 2 (wholes (0 ∷ c .clen ∷ []))) (inl refl) (inr refl))
 
-module _ (bytes : List ℕ) (h : Head) where
-  pub by-first-deviation : ruleH bytes h
-      ≡ turnsRule (deviationNumber bytes (deviationsAt h) (h .control)) (deviationCount h) (h .control .slen) (length bytes - deviationsAt h)
-  by-first-deviation =
-      in-turn bytes (deviationsAt h) (h .control .slen) (deviationFormat (h .control)) (deviation-format (h .control)) (deviationCount h)
-      (ieee (h .control .slen) (part bytes (deviationsAt h) (h .control .slen)))
+-- rule h) by the form that is worked out of a range and a control
+pub by-form : (range : DeviationRange) (bytes : List ℕ) (at : ℕ) (c : ParseControl) → lentRule range .number ≡ 0 → (n : ℕ)
+    → formRule bytes at c (formOf range c) n
+    ≡ inTurn bytes at (c .slen) (λ i. formatOver range c i (part bytes (at + i * c .slen) (c .slen))) n
+by-form range bytes at c z zero = refl
+by-form range bytes at c z (suc n) = rw (by-form range bytes at c z n, form-rule bytes (at + n * c .slen) c n range z)
 
+-- as the pack says: by the first deviation
+pub by-first-deviation : (bytes : List ℕ) (at : ℕ) (c : ParseControl) (n : ℕ)
+    → formRule bytes at c plain n ≡ turnsRule (formNumber bytes at c plain 0) n (c .slen) (length bytes - at)
+by-first-deviation bytes at c n =
+    in-turn bytes at (c .slen) (deviationFormat c) (deviation-format c) n (ieee (c .slen) (part bytes at (c .slen)))
+
+module _ (bytes : List ℕ) (h : Head) where
   pub by-first-code : ruleJ bytes h
       ≡ turnsRule (correlationNumber bytes (codesAt h) (h .control)) (presentCount bytes h) (h .control .clen) (length bytes - codesAt h)
   by-first-code =

@@ -4,8 +4,8 @@ use mathlib.Core.Path.{_≡_, refl, ap}
 use mathlib.Core.List.{List}
 use mathlib.Core.Logic.{inl, inr, by-cases}
 use Prim.Native.Nat.{ℕ, zero, suc, _+_, _-_, _*_, _≤_, _<_}
-use native.Mathlib.Nat.{zero-mul, mul-zero, suc-mul, mul-le-mul-right}
-use native.Mathlib.Decide.{ℕ-discrete}
+use native.Mathlib.Nat.{zero-mul, mul-zero, suc-mul, mul-le-mul-right, lt-of-not-le}
+use native.Mathlib.Decide.{decLe, ℕ-discrete}
 use native.Mathlib.Omega.{arith}
 use borrow.Author.Tests.{eqb-true, eqb-false, ltb-false}
 use lib.Dec.{eqb, ltb}
@@ -17,13 +17,16 @@ use Rattle.layout.specs.Size.{maxRows, maxSlots}
 use Rattle.layout.specs.Triangle.{slotsOf}
 use Rattle.layout.proofs.RowByRow.{few-slots}
 use Rattle.elements.specs.declared.head.Head.{Head}
-use Rattle.elements.specs.Elements.{deviationsAt, deviationCount, codesAt, presentCount}
-use Rattle.elements.specs.Formats.{deviationFormat}
+use Rattle.elements.specs.Elements.{part, deviationsAt, deviationCount, codesAt, presentCount}
+use Rattle.elements.specs.Formats.{codeFormat}
 use Rattle.elements.specs.Numbers.{elementRule}
 use Rattle.elements.specs.Held.{SlotsHeld, Within}
+use Rattle.deviations.specs.declared.form.DeviationRange.{DeviationRange}
+use Rattle.deviations.specs.Range.{lentRule}
+use Rattle.deviations.specs.Form.{Form, formOf, formFormat}
 use Rattle.rules.specs.Rules.{inTurn, ruleH, ruleI, ruleJ, ruleK, codeRules, elementRules, roomRules}
 use Rattle.rules.proofs.InTurn.{Format}
-use Rattle.rules.proofs.Decided.{deviation-format, code-format}
+use Rattle.rules.proofs.Decided.{by-form, code-format}
 use Rattle.elements.proofs.Vector.{present-le}
 
 -- ---- how large the counts can be
@@ -53,34 +56,41 @@ passed : {format : Answer} → Format format → format .number ≡ 0 → format
 passed (inl e) z = e
 passed {format} (inr e) z = absurd (eqb-false (format .number) 0 e z)
 
-module _ (bytes : List ℕ) (at size : ℕ) {format : Answer} (f : Format format) where
+module _ (bytes : List ℕ) (at size : ℕ) (format : ℕ → Answer) where
   enough : (n : ℕ) → at ≤ length bytes → size ≤ length bytes - (at + n * size) → at + suc n * size ≤ length bytes
   enough n w h =
       by-cases (ℕ-discrete size 0) (λ (z : size ≡ 0). rw (z, mul-zero (suc n)) (omega arith)) (λ (z : size ≡ 0 → ⊥). omega (arith, suc-mul n size))
 
   turns-held : (n : ℕ) → at ≤ length bytes → inTurn bytes at size format n .number ≡ 0
-      → (at + n * size ≤ length bytes) × (0 < n → format ≡ passes)
-  turns-held zero w e = (omega (arith, zero-mul size), λ l. absurd (omega arith))
+      → (at + n * size ≤ length bytes) × ((i : ℕ) → i < n → format i .number ≡ 0)
+  turns-held zero w e = (omega (arith, zero-mul size), λ i l. absurd (omega arith))
   turns-held (suc n) w e =
-      picked (λ x. x .number ≡ 0 → (at + suc n * size ≤ length bytes) × (0 < suc n → format ≡ passes)) (ltb (length bytes - (at + n * size)) size) (short size (length bytes - (at + n * size))) format
-      (λ _ z. absurd (omega arith)) (λ t z. (enough n w (ltb-false (length bytes - (at + n * size)) size t), λ _. passed f z))
-      (next-zero (inTurn bytes at size format n) (elementRule bytes (at + n * size) size format) e .1)
+      let t = next-zero (inTurn bytes at size format n) (elementRule bytes (at + n * size) size (format n)) e in
+      let last : (at + suc n * size ≤ length bytes) × (format n .number ≡ 0) =
+      picked (λ x. x .number ≡ 0 → (at + suc n * size ≤ length bytes) × (format n .number ≡ 0)) (ltb (length bytes - (at + n * size)) size) (short size (length bytes - (at + n * size))) (format n)
+      (λ _ z. absurd (omega arith)) (λ t z. (enough n w (ltb-false (length bytes - (at + n * size)) size t), z)) (t .1) in
+      (last .0, λ i l. elim (decLe n i) [ yes h ↦ let p : i ≡ n = omega arith in rw p (last .1) | no h ↦ turns-held n w (t .0) .1 i (lt-of-not-le h) ])
 
--- ---- rules h) to k)
-pub record Held (bytes : List ℕ) (h : Head) : Type 0 where
+-- ---- rules h) to k): the deviations by the form that they are read in
+pub record Held (bytes : List ℕ) (h : Head) (f : Form) : Type 0 where
   pub deviations : deviationsAt h + deviationCount h * h .control .slen ≤ length bytes
-  pub format : 0 < deviationCount h → deviationFormat (h .control) ≡ passes
+  pub each : (i : ℕ) → i < deviationCount h
+      → formFormat f (h .control) i (part bytes (deviationsAt h + i * h .control .slen) (h .control .slen)) .number ≡ 0
   pub slots : SlotsHeld bytes (h .body) (codesAt h) (h .control) (slotsOf (h .n))
 
-pub held : (bytes : List ℕ) (h : Head) → Within bytes h → elementRules bytes h .number ≡ 0 → Held bytes h
-held bytes h w e =
-    let a = next-zero (ruleH bytes h) (codeRules bytes h) e in
+pub held : (range : DeviationRange) (bytes : List ℕ) (h : Head) → lentRule range .number ≡ 0 → Within bytes h
+    → elementRules range bytes h .number ≡ 0 → Held bytes h (formOf range (h .control))
+held range bytes h z w e =
+    let k = h .control in
+    let a = next-zero (ruleH range bytes h) (codeRules bytes h) e in
     let b = next-zero (ruleI bytes h) (next (ruleJ bytes h) (ruleK bytes h)) (a .1) in
     let j = next-zero (ruleJ bytes h) (ruleK bytes h) (b .1) in
-    let ds = turns-held bytes (deviationsAt h) (h .control .slen) (deviation-format (h .control)) (deviationCount h) (w .vector) (a .0) in
+    let ds =
+    turns-held bytes (deviationsAt h) (k .slen) (λ i. formFormat (formOf range k) k i (part bytes (deviationsAt h + i * k .slen) (k .slen))) (deviationCount h) (w .vector)
+    (rw (by-form range bytes (deviationsAt h) k z (deviationCount h)) (a .0)) in
     let l : codesAt h ≤ length bytes = omega (arith, ds .0, count-bytes h) in
-    let cs = turns-held bytes (codesAt h) (h .control .clen) (code-format (h .control)) (presentCount bytes h) l (j .0) in
-    record { deviations = ds .0; format = ds .1; slots = record { whole = cs .0; format = cs .1 } }
+    let cs = turns-held bytes (codesAt h) (k .clen) (λ _. codeFormat k) (presentCount bytes h) l (j .0) in
+    record { deviations = ds .0; each = ds .1; slots = record { whole = cs .0; format = λ p. passed (code-format k) (cs .1 0 p) } }
 
 -- ---- rule l)
 pub record Rooms (h : Head) (ds cs ps : ℕ) : Type 0 where

@@ -28,19 +28,19 @@ Format a = (a ≡ passes) ⊎ (eqb (a .number) 0 ≡ false)
 
 module _ (bytes : List ℕ) (at size : ℕ) where
   -- where the first is short
-  short-first : (format : Answer) (n : ℕ) → length bytes - at < size → inTurn bytes at size format (suc n) ≡ short size (length bytes - at)
+  short-first : (format : Answer) (n : ℕ) → length bytes - at < size → inTurn bytes at size (λ _. format) (suc n) ≡ short size (length bytes - at)
   short-first format zero h = rw (zero-mul size, add-zero at, lt-ltb (length bytes - at) size h)
   short-first format (suc n) h = rw (short-first format n h)
 
   -- where the format is refused
-  bad-format : (format : Answer) (n : ℕ) → size ≤ length bytes - at → eqb (format .number) 0 ≡ false → inTurn bytes at size format (suc n) ≡ format
+  bad-format : (format : Answer) (n : ℕ) → size ≤ length bytes - at → eqb (format .number) 0 ≡ false → inTurn bytes at size (λ _. format) (suc n) ≡ format
   bad-format format zero h e =
       let k : size ≤ length bytes - (at + 0 * size) = omega (arith, h, zero-mul size) in
       rw (le-ltb (length bytes - (at + 0 * size)) size k)
   bad-format format (suc n) h e = rw (bad-format format n h e, e)
 
   -- where only the bytes can be short
-  pub all-held : (n : ℕ) → n * size ≤ length bytes - at → inTurn bytes at size passes n ≡ passes
+  pub all-held : (n : ℕ) → n * size ≤ length bytes - at → inTurn bytes at size (λ _. passes) n ≡ passes
   all-held zero h = refl
   all-held (suc n) h =
       let e = suc-mul n size in
@@ -54,7 +54,7 @@ module _ (bytes : List ℕ) (at size : ℕ) where
       sym (ap (λ (m : ℕ). m % size) e ∙ digits-mod n h)
 
   -- the bytes that are left modulo the size are what is left at the one that is short
-  short-later : (n : ℕ) → length bytes - at < n * size → inTurn bytes at size passes n ≡ short size ((length bytes - at) % size)
+  short-later : (n : ℕ) → length bytes - at < n * size → inTurn bytes at size (λ _. passes) n ≡ short size ((length bytes - at) % size)
   short-later zero h = absurd (omega (arith, h, zero-mul size))
   short-later (suc n) h =
       let e = suc-mul n size in
@@ -67,7 +67,7 @@ module _ (bytes : List ℕ) (at size : ℕ) where
 
   -- the law, for both rules
   pub in-turn : (format : Answer) → Format format → (n value : ℕ)
-      → inTurn bytes at size format n ≡ turnsRule (element bytes at size format value) n size (length bytes - at)
+      → inTurn bytes at size (λ _. format) n ≡ turnsRule (element bytes at size format value) n size (length bytes - at)
   in-turn format f zero value = refl
   in-turn format f (suc n) value =
       elim (decLe size (length bytes - at)) [
@@ -75,7 +75,7 @@ module _ (bytes : List ℕ) (at size : ℕ) where
         | yes h ↦ rw (eqb·suc-zero n, le-ltb (length bytes - at) size h) (go h f)
       ]
     where
-      go : size ≤ length bytes - at → Format format → inTurn bytes at size format (suc n)
+      go : size ≤ length bytes - at → Format format → inTurn bytes at size (λ _. format) (suc n)
           ≡ next (refusalOf (pick (eqb (format .number) 0) (bits value) (refused format))) (pick (ltb (length bytes - at) (suc n * size)) (short size ((length bytes - at) % size)) passes)
       go h (inr e) = rw (bad-format format n h e, e, e)
       go h (inl e) =
@@ -84,3 +84,13 @@ module _ (bytes : List ℕ) (at size : ℕ) where
             | yes k ↦ rw (all-held (suc n) k, le-ltb (length bytes - at) (suc n * size) k)
             | no k ↦ let l = lt-of-not-le k in rw (short-later (suc n) l, lt-ltb (length bytes - at) (suc n * size) l)
           ])
+
+-- elements that each have a format: the first that is refused decides
+pub turns-stop : (bytes : List ℕ) (at size : ℕ) (format : ℕ → Answer) (k n : ℕ) → k < n → eqb (inTurn bytes at size format (suc k) .number) 0 ≡ false
+    → inTurn bytes at size format n ≡ inTurn bytes at size format (suc k)
+turns-stop bytes at size format k zero h e = absurd (omega arith)
+turns-stop bytes at size format k (suc n) h e =
+    elim (decLe n k) [
+      | yes l ↦ let p : n ≡ k = omega arith in rw p
+      | no l ↦ rw (turns-stop bytes at size format k n (lt-of-not-le l) e, e)
+    ]

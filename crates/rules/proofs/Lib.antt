@@ -3,3 +3,4 @@ pub mod Held
 pub mod InTurn
 pub mod OneAnswer
 pub mod Verdict
+pub mod Rows

@@ -1,4 +1,5 @@
--- Document 01, "Reader's order": the rules h) to l), each as it stands there, behind a) to g) of `layout`.
+-- Document 01, "Reader's order": the rules h) to l), each as it stands there, behind a) to g) of `layout`. A range that
+-- is lent comes before them all.
 use Prim.Native.Nat.{ℕ, zero, suc, _+_, _-_, _*_}
 use mathlib.Core.Bool.{not, _&&_}
 use mathlib.Core.List.{List, [], _∷_}
@@ -9,15 +10,17 @@ use Rattle.layout.specs.declared.control.ParseControl.{ParseControl}
 use Rattle.layout.specs.Size.{fitRules}
 use Rattle.layout.specs.Triangle.{slotsOf}
 use Rattle.elements.specs.declared.head.Head.{Head}
-use Rattle.elements.specs.Elements.{headOf, deviationsAt, deviationCount, codesAt, presentCount, endAt}
-use Rattle.elements.specs.Formats.{deviationFormat, codeFormat}
+use Rattle.elements.specs.Elements.{headOf, part, deviationsAt, deviationCount, codesAt, presentCount, endAt}
+use Rattle.elements.specs.Formats.{codeFormat}
 use Rattle.elements.specs.Numbers.{elementRule}
+use Rattle.deviations.specs.declared.form.DeviationRange.{DeviationRange}
+use Rattle.deviations.specs.Range.{lentRule, formatOver}
 
--- each of n elements of `size` bytes from `at` on, in turn
-abbrev pub inTurn : List ℕ → ℕ → ℕ → Answer → ℕ → Answer
+-- each of n elements of `size` bytes from `at` on, in turn, with what its format refuses
+abbrev pub inTurn : List ℕ → ℕ → ℕ → (ℕ → Answer) → ℕ → Answer
 inTurn bytes at size format zero = passes
 inTurn bytes at size format (suc n) =
-    next (inTurn bytes at size format n) (elementRule bytes (at + n * size) size format)
+    next (inTurn bytes at size format n) (elementRule bytes (at + n * size) size (format n))
 
 -- CS=1, Clen>0 and present·Clen exceeds what is left: 1 with present·Clen and what is left
 abbrev pub codesRule : ParseControl → ℕ → ℕ → Answer
@@ -28,17 +31,21 @@ codesRule c present left =
 abbrev pub overRule : ℕ → ℕ → Answer
 overRule used given = pick (ltb used given) (answer 2 (wholes (used ∷ given ∷ []))) passes
 
-module _ (bytes : List ℕ) (h : Head) where
-  -- each deviation in turn: fewer than Slen bytes left: 1 with Slen and what is left there; then its format
-  abbrev pub ruleH : Answer
-  ruleH = inTurn bytes (deviationsAt h) (h .control .slen) (deviationFormat (h .control)) (deviationCount h)
+-- each deviation in turn: fewer than Slen bytes left: 1 with Slen and what is left there; then its format, over a range
+-- or none
+abbrev pub ruleH : DeviationRange → List ℕ → Head → Answer
+ruleH range bytes h =
+    inTurn bytes (deviationsAt h) (h .control .slen)
+    (λ i. formatOver range (h .control) i (part bytes (deviationsAt h + i * h .control .slen) (h .control .slen)))
+    (deviationCount h)
 
+module _ (bytes : List ℕ) (h : Head) where
   abbrev pub ruleI : Answer
   ruleI = codesRule (h .control) (presentCount bytes h) (length bytes - codesAt h)
 
   -- each present slot in turn: fewer than Clen bytes left: 1 with Clen and what is left there; then its format
   abbrev pub ruleJ : Answer
-  ruleJ = inTurn bytes (codesAt h) (h .control .clen) (codeFormat (h .control)) (presentCount bytes h)
+  ruleJ = inTurn bytes (codesAt h) (h .control .clen) (λ _. codeFormat (h .control)) (presentCount bytes h)
 
   abbrev pub ruleK : Answer
   ruleK = overRule (endAt bytes h) (length bytes)
@@ -47,13 +54,14 @@ module _ (bytes : List ℕ) (h : Head) where
   abbrev pub codeRules : Answer
   codeRules = next ruleI (next ruleJ ruleK)
 
-  -- h) to k)
-  abbrev pub elementRules : Answer
-  elementRules = next ruleH codeRules
+-- h) to k)
+abbrev pub elementRules : DeviationRange → List ℕ → Head → Answer
+elementRules range bytes h = next (ruleH range bytes h) (codeRules bytes h)
 
--- a) to k)
-abbrev pub packRules : List ℕ → Answer
-packRules bytes = next (fitRules bytes) (elementRules bytes (headOf bytes))
+-- the range that is lent, and a) to k)
+abbrev pub packRules : DeviationRange → List ℕ → Answer
+packRules range bytes =
+    next (lentRule range) (next (fitRules bytes) (elementRules range bytes (headOf bytes)))
 
 -- l) the first short buffer among deviations, correlations, presence: 5
 abbrev pub roomRules : Head → ℕ → ℕ → ℕ → Answer

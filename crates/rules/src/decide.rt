@@ -1,13 +1,18 @@
-//! Rules a) to k), of the bytes alone. h) and j) are decided by their first element and by how many bytes there are.
+//! Rules a) to k), of the bytes and the range that is lent.
 use crate::turns::in_turn;
+use crate::turns::rows_in_turn;
 use answers::Check;
 use answers::Refusal;
+use deviations::form::DeviationForm;
+use deviations::form::DeviationRange;
+use deviations::form::check_deviation_range;
+use deviations::form::deviation_form;
+use deviations::number::deviation_in;
 use elements::head::Opened;
 use elements::head::Places;
 use elements::head::deviation_count;
 use elements::head::open_pack;
 use elements::number::correlation_at;
-use elements::number::deviation_at;
 use elements::number::left;
 use elements::present::present_count;
 use layout::control::ParseControl;
@@ -16,10 +21,13 @@ ghost use Prim.Native.Nat.{_-_, _*_, _<_, _^_};
 ghost use lib.ListN.{length};
 ghost use Rattle.answers.specs.Listed.{checked};
 ghost use Rattle.elements.specs.Held.{Placed};
-ghost use Rattle.elements.specs.Listed.{openedListed, verdict};
 ghost use Rattle.elements.specs.Numbers.{correlationNumber};
+ghost use Rattle.answers.specs.Table.{next};
+ghost use Rattle.elements.specs.Elements.{deviationCount};
+ghost use Rattle.deviations.specs.Form.{formListed};
+ghost use Rattle.rules.specs.Decided.{decidedListed, decided, formRule};
 ghost use Rattle.rules.specs.Turns.{turnsRule};
-ghost use Rattle.rules.specs.Rules.{codesRule, overRule, ruleH, codeRules, elementRules, packRules};
+ghost use Rattle.rules.specs.Rules.{codesRule, overRule, codeRules};
 
 // Rule i): the codes that a Bit Vector announces are there.
 fn codes_there(control: ParseControl, present: usize, after: usize) -> Check
@@ -37,20 +45,22 @@ fn codes_there(control: ParseControl, present: usize, after: usize) -> Check
     }
 }
 
-// Rule h): every deviation, by the first of them.
-fn deviations_held(bytes: &[u8], places: Places) -> Check
+// Rule h): every deviation. Mapped ones are each looked at; of the others the first tells.
+fn deviations_held(bytes: &[u8], places: Places, form: DeviationForm) -> Check
     requires { ⌜ Placed (now bytes) places ⌝ }
-    ensures { λ r. ⌜ checked r ≡ ruleH (now (bytes .entry)) (places .head) ⌝ }
+    ensures { λ r. ⌜ checked r
+        ≡ formRule (now (bytes .entry)) (places .deviations) (places .head .control) (formListed form)
+        (deviationCount (places .head)) ⌝ }
 {
     let head = places.head;
     let control = head.control;
-    let first = deviation_at(bytes, places.deviations, control);
-    in_turn(
-        first,
-        deviation_count(head),
-        control.slen as usize,
-        left(bytes, places.deviations),
-    )
+    let at = places.deviations;
+    let count = deviation_count(head);
+    if let DeviationForm::Mapped(_) = form {
+        return rows_in_turn(bytes, at, control, form, count);
+    }
+    let first = deviation_in(bytes, at, control, form, 0);
+    in_turn(first, count, control.slen as usize, left(bytes, at))
 }
 
 // Rule j): every present slot, by the first of them.
@@ -98,28 +108,40 @@ fn codes_whole(bytes: &[u8], places: Places) -> Check
 }
 
 // Rules h) to k), of a pack that has passed a) to g).
-fn elements_whole(bytes: &[u8], places: Places) -> Check
+fn elements_whole(bytes: &[u8], places: Places, form: DeviationForm) -> Check
     requires { ⌜ Placed (now bytes) places ⌝ }
-    ensures { λ r. ⌜ checked r ≡ elementRules (now (bytes .entry)) (places .head) ⌝ }
+    ensures { λ r. ⌜ checked r
+        ≡ next (formRule (now (bytes .entry)) (places .deviations) (places .head .control) (formListed form)
+        (deviationCount (places .head))) (codeRules (now (bytes .entry)) (places .head)) ⌝ }
 {
-    let held = deviations_held(bytes, places);
+    let held = deviations_held(bytes, places, form);
     let Check::Passes = held else {
         return held;
     };
     codes_whole(bytes, places)
 }
 
-// Rules a) to k): the places of a pack that they pass.
-pub fn decide(bytes: &[u8]) -> Opened
-    ensures { λ r. ⌜ openedListed r ≡ verdict (now (bytes .entry)) (packRules (now (bytes .entry))) ⌝ }
+// What the rules decide: where a pack's elements start and how its deviations are read, or the first that refuses it.
+pub enum Decided {
+    Pack { places: Places, form: DeviationForm },
+    Refused(Refusal),
+}
+
+// The range that is lent, and rules a) to k).
+pub fn decide(bytes: &[u8], range: DeviationRange) -> Decided
+    ensures { λ r. ⌜ decidedListed r ≡ decided range (now (bytes .entry)) ⌝ }
 {
-    let opened = open_pack(bytes);
-    let Opened::Pack(places) = opened else {
-        return opened;
-    };
-    let whole = elements_whole(bytes, places);
-    if let Check::Refused(refusal) = whole {
-        return Opened::Refused(refusal);
+    if let Check::Refused(refusal) = check_deviation_range(range) {
+        return Decided::Refused(refusal);
     }
-    opened
+    match open_pack(bytes) {
+        Opened::Refused(refusal) => Decided::Refused(refusal),
+        Opened::Pack(places) => {
+            let form = deviation_form(range, places.head.control);
+            if let Check::Refused(refusal) = elements_whole(bytes, places, form) {
+                return Decided::Refused(refusal);
+            }
+            Decided::Pack { places, form }
+        }
+    }
 }

@@ -4,19 +4,27 @@ use mathlib.Core.List.{List, [], _∷_}
 use Prim.Native.Nat.{ℕ, zero, suc, _+_, _-_, _*_}
 use lib.Dec.{ltb}
 use lib.ListN.{length}
-use Rattle.answers.specs.Table.{Answer, answer, short, wholes, next}
+use Rattle.answers.specs.Table.{Answer, answer, short, wholes, pick, next}
 use Rattle.answers.specs.Listed.{InTable}
-use Rattle.answers.proofs.InTable.{in-done, in-1, in-pick, in-next, table}
-use Rattle.imapb.specs.Tables.{rangeRule}
+use Rattle.answers.proofs.InTable.{in-done, in-1, in-8, in-pick, in-next, table}
+use Rattle.numbers.specs.Words.{wordOf}
+use Rattle.imapb.specs.declared.decode.DecodedImapb.{DecodedImapb}
+use Rattle.imapb.specs.declared.decode.DecodedImapb.the-variants.{Value, Special, ReservedSpecial, OutOfRange}
+use Rattle.imapb.specs.Tables.{rangeRule, supported}
+use Rattle.ranges.specs.Range.{readingIn}
+use Rattle.ranges.specs.Tables.{lengthRule}
 use Rattle.layout.specs.declared.control.ParseControl.{ParseControl}
 use Rattle.layout.specs.declared.header.Header.{Header}
 use Rattle.layout.specs.declared.header.Header.the-variants.{Open, Unreadable, Short}
 use Rattle.layout.specs.Header.{matrixSize, controlOf, bodyAt, headerOf, headerRefusal, headRules}
 use Rattle.layout.specs.Size.{fitRules, sizeRules}
-use Rattle.elements.specs.Elements.{headOf, deviationsAt, deviationCount, codesAt, presentCount, endAt}
+use Rattle.elements.specs.Elements.{headOf, part, deviationsAt, deviationCount, codesAt, presentCount, endAt}
 use Rattle.elements.specs.Formats.{deviationFormat, codeFormat}
 use Rattle.elements.specs.Numbers.{elementRule}
-use Rattle.reader.specs.Rules.{done}
+use Rattle.deviations.specs.declared.form.DeviationRange.{DeviationRange}
+use Rattle.deviations.specs.declared.form.DeviationRange.the-variants.{Unknown, Known}
+use Rattle.deviations.specs.Range.{lentRule, valueRule, formatOver}
+use Rattle.reader.specs.Rules.{done, readAnswerIn}
 use Rattle.rules.specs.Rules.{inTurn, codesRule, overRule, ruleH, ruleI, ruleJ, ruleK, elementRules, packRules, roomRules}
 use Rattle.elements.specs.declared.head.Head.{Head}
 use Rattle.plan.specs.Places.{packPlan}
@@ -30,11 +38,11 @@ element-in : (bytes : List ℕ) (at size : ℕ) (format : Answer) → InTable fo
 element-in bytes at size format f =
     in-pick (ltb (length bytes - at) size) (short size (length bytes - at)) format (in-1 size (length bytes - at)) f
 
-turns-in : (bytes : List ℕ) (at size : ℕ) (format : Answer) → InTable format → (n : ℕ) → InTable (inTurn bytes at size format n)
+turns-in : (bytes : List ℕ) (at size : ℕ) (format : ℕ → Answer) → ((i : ℕ) → InTable (format i)) → (n : ℕ) → InTable (inTurn bytes at size format n)
 turns-in bytes at size format f zero = in-done []
 turns-in bytes at size format f (suc n) =
-    in-next (inTurn bytes at size format n) (elementRule bytes (at + n * size) size format) (turns-in bytes at size format f n)
-    (element-in bytes (at + n * size) size format f)
+    in-next (inTurn bytes at size format n) (elementRule bytes (at + n * size) size (format n)) (turns-in bytes at size format f n)
+    (element-in bytes (at + n * size) size (format n) (f n))
 
 range-in : (v : ℕ) → InTable (rangeRule v)
 range-in v = search table depth 10
@@ -64,13 +72,36 @@ codes-in k present left = search table depth 10
 over-in : (used given : ℕ) → InTable (overRule used given)
 over-in used given = search table depth 10
 
-elements-in : (bytes : List ℕ) → InTable (elementRules bytes (headOf bytes))
-elements-in bytes =
+-- over a range, or over none
+values-in : (row : ℕ) (d : DecodedImapb) → InTable (valueRule row d)
+values-in row (Value x) = in-done []
+values-in row (Special s) = in-8 row
+values-in row (ReservedSpecial y) = in-8 row
+values-in row (OutOfRange x) = in-8 row
+
+lengths-in : (L : ℕ) → InTable (lengthRule L)
+lengths-in L = search table depth 10
+
+lent-in : (range : DeviationRange) → InTable (lentRule range)
+lent-in Unknown = in-done []
+lent-in (Known min max) = search table depth 10
+
+over-range-in : (range : DeviationRange) (k : ParseControl) (i : ℕ) (raw : List ℕ) → InTable (formatOver range k i raw)
+over-range-in Unknown k i raw = formats-in k .0
+over-range-in (Known min max) k i raw =
+    let v = readingIn min max (k .slen) (wordOf raw) in
+    in-pick (k .sf) (pick (supported (k .slen)) (valueRule i v) (lengthRule (k .slen))) (deviationFormat k)
+    (in-pick (supported (k .slen)) (valueRule i v) (lengthRule (k .slen)) (values-in i v) (lengths-in (k .slen))) (formats-in k .0)
+
+elements-in : (range : DeviationRange) (bytes : List ℕ) → InTable (elementRules range bytes (headOf bytes))
+elements-in range bytes =
     let h = headOf bytes in
     let k = h .control in
-    in-next (ruleH bytes h) (next (ruleI bytes h) (next (ruleJ bytes h) (ruleK bytes h))) (turns-in bytes (deviationsAt h) (k .slen) (deviationFormat k) (formats-in k .0) (deviationCount h))
+    let raw : ℕ → List ℕ = λ i. part bytes (deviationsAt h + i * k .slen) (k .slen) in
+    in-next (ruleH range bytes h) (next (ruleI bytes h) (next (ruleJ bytes h) (ruleK bytes h)))
+    (turns-in bytes (deviationsAt h) (k .slen) (λ i. formatOver range k i (raw i)) (λ i. over-range-in range k i (raw i)) (deviationCount h))
     (in-next (ruleI bytes h) (next (ruleJ bytes h) (ruleK bytes h)) (codes-in k (presentCount bytes h) (length bytes - codesAt h))
-    (in-next (ruleJ bytes h) (ruleK bytes h) (turns-in bytes (codesAt h) (k .clen) (codeFormat k) (formats-in k .1) (presentCount bytes h)) (over-in (endAt bytes h) (length bytes))))
+    (in-next (ruleJ bytes h) (ruleK bytes h) (turns-in bytes (codesAt h) (k .clen) (λ _. codeFormat k) (λ _. formats-in k .1) (presentCount bytes h)) (over-in (endAt bytes h) (length bytes))))
 
 rooms-in : (h : Head) (d c p : ℕ) → InTable (roomRules h d c p)
 rooms-in h d c p = search table depth 20
@@ -83,8 +114,19 @@ fits-in bytes =
     let k = controlOf bytes in
     in-next (headRules bytes) (sizeRules n R k) (heads-in bytes) (sizes-in n R k)
 
-packs-in : (bytes : List ℕ) → InTable (packRules bytes)
-packs-in bytes = in-next (fitRules bytes) (elementRules bytes (headOf bytes)) (fits-in bytes) (elements-in bytes)
+packs-in : (range : DeviationRange) (bytes : List ℕ) → InTable (packRules range bytes)
+packs-in range bytes =
+    let elements = elementRules range bytes (headOf bytes) in
+    in-next (lentRule range) (next (fitRules bytes) elements) (lent-in range) (in-next (fitRules bytes) elements (fits-in bytes) (elements-in range bytes))
+
+reads-in : (range : DeviationRange) (bytes : List ℕ) (d c p : ℕ) → InTable (readAnswerIn range bytes d c p)
+reads-in range bytes d c p =
+    let h = headOf bytes in
+    let elements = elementRules range bytes h in
+    let behind = next (roomRules h d c p) (done h) in
+    in-next (lentRule range) (next (fitRules bytes) (next elements behind)) (lent-in range)
+    (in-next (fitRules bytes) (next elements behind) (fits-in bytes)
+    (in-next elements behind (elements-in range bytes) (in-next (roomRules h d c p) (done h) (rooms-in h d c p) (search table depth 10))))
 
 -- the writer's counts, the plan, the room, and the slots
 counts-in : (n count L : ℕ) → InTable (countRules n count L)
@@ -102,14 +144,12 @@ done-in n = search table depth 10
 pub answered : Answered
 answered =
     record {
-      reads = λ bytes d c p.
-          let h = headOf bytes in
-          let behind = next (roomRules h d c p) (done h) in
-          in-next (fitRules bytes) (next (elementRules bytes h) behind) (fits-in bytes)
-          (in-next (elementRules bytes h) behind (elements-in bytes) (in-next (roomRules h d c p) (done h) (rooms-in h d c p) (search table depth 10)));
+      reads-in = reads-in;
+      reads = reads-in Unknown;
       heads = heads-in;
       fits = sizes-in;
       opens = fits-in;
+      lent = lent-in;
       decides = packs-in;
       rooms = rooms-in;
       writes = λ ds cs L room.
@@ -125,6 +165,9 @@ answered =
       writes-oid = λ v room. search table depth 10;
       maps = λ L v room. search table depth 10;
       checks = range-in;
+      lengths = lengths-in;
+      ranges = λ min max. lent-in (Known min max);
+      slices = λ L bytes. search table depth 10;
       maps-special = λ L s room. search table depth 10;
       looks-up = λ p ds cs i j. search table depth 10;
       prints = λ bytes room. search table depth 10;

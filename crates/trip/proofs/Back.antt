@@ -15,6 +15,7 @@ use Rattle.layout.specs.Header.{matrixSize}
 use Rattle.layout.specs.Size.{maxRows, sizeRules, fitRules}
 use Rattle.layout.specs.Triangle.{slotsOf}
 use Rattle.elements.specs.Elements.{presentBefore, headOf, deviationCount}
+use Rattle.deviations.specs.declared.form.DeviationRange.the-variants.{Unknown}
 use Rattle.rules.specs.Rules.{elementRules, roomRules}
 use Rattle.rules.proofs.InTurn.{all-held}
 use Rattle.writer.specs.Pack.{element1, element2, formBytes}
@@ -59,7 +60,7 @@ module _ (ds cs : List ℕ) (L : ℕ) (sparse : Bool) (rows : length ds ≤ maxR
       (λ e. omega (arith, rw (e, ne-eqb L 0 (omega arith)) at whole)) (λ e. omega (arith, rw e at whole)))
 
   -- h) to k)
-  elements-pass : elementRules bytes (headOf bytes) ≡ passes
+  elements-pass : elementRules Unknown bytes (headOf bytes) ≡ passes
   elements-pass =
       rw (
         head .control,

@@ -20,6 +20,7 @@ use Rattle.elements.specs.Elements.{headOf, deviationCount, deviations, correla
 use Rattle.elements.specs.Listed.{packOf}
 use Rattle.reader.specs.Listed.{packAnswer}
 use Rattle.reader.specs.Rules.{done, readAnswer}
+use Rattle.deviations.specs.declared.form.DeviationRange.the-variants.{Unknown}
 use Rattle.rules.specs.Rules.{elementRules, roomRules}
 use Rattle.reader.proofs.OneAnswer.{pack-one}
 use Rattle.matrix.specs.Lookup.{number, entryAnswer}
@@ -74,7 +75,7 @@ rows-read : (bytes : List ℕ) (d c p : ℕ) → readAnswer bytes d c p .number 
 rows-read bytes d c p e =
     let h = headOf bytes in
     let R = length bytes - bodyAt bytes in
-    let fit = next-zero (fitRules bytes) (next (elementRules bytes h) (next (roomRules h d c p) (done h))) e .0 in
+    let fit = next-zero (fitRules bytes) (next (elementRules Unknown bytes h) (next (roomRules h d c p) (done h))) e .0 in
     let size = next-zero (headRules bytes) (sizeRules (matrixSize bytes) R (controlOf bytes)) fit .1 in
     fits-tells (matrixSize bytes) R (controlOf bytes) .done size .rows
 
@@ -87,7 +88,7 @@ pub pack-read : (bytes : List ℕ) (d c p : ℕ) (pack : SdccFlp) → packAnswer
 pack-read bytes d c p pack e =
     let h = headOf bytes in
     let rooms = roomRules h d c p in
-    let elements = elementRules bytes h in
+    let elements = elementRules Unknown bytes h in
     let fits = next-zero (fitRules bytes) (next elements (next rooms (done h))) (ap (λ (a : Answer). a .number) (sym e)) in
     let held = next-zero elements (next rooms (done h)) (fits .1) in
     let roomy = next-zero rooms (done h) (held .1) in

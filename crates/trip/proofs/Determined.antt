@@ -41,13 +41,19 @@ use Rattle.numbers.proofs.conversions.nearest_binary64.Reads as nearest-binary6
 use Rattle.numbers.proofs.conversions.binary64_to_binary32.Reads as binary64-to-binary32
 use Rattle.numbers.proofs.conversions.binary32_to_binary64.Reads as binary32-to-binary64
 use Rattle.numbers.proofs.conversions.whole_part.Reads as whole-part
-use Rattle.imapb.proofs.OneAnswer.{decode-imapb-one, check-range-one, imapb-code-one, imapb-mapping-one, encode-imapb-one, encode-imapb-special-one}
+use Rattle.imapb.proofs.OneAnswer.{decode-imapb-one, unless-special-one, check-range-one, imapb-code-one, imapb-mapping-one, encode-imapb-one, encode-imapb-special-one}
 use Rattle.imapb.proofs.decode.decode_imapb.Reads as decode-imapb
+use Rattle.imapb.proofs.decode.unless_special.Reads as unless-special
 use Rattle.imapb.proofs.encode.check_range.Reads as check-range
 use Rattle.imapb.proofs.encode.imapb_code.Reads as imapb-code
 use Rattle.imapb.proofs.mapping.imapb_mapping.Reads as imapb-mapping
 use Rattle.imapb.proofs.encode.encode_imapb.Reads as encode-imapb
 use Rattle.imapb.proofs.special.encode_imapb_special.Reads as encode-imapb-special
+use Rattle.ranges.proofs.OneAnswer.{check-range-one as range-check-one, range-mapping-one, decode-worked-out-one, decode-imapb-in-one}
+use Rattle.ranges.proofs.range.check_range.Reads as range-check
+use Rattle.ranges.proofs.mapping.range_mapping.Reads as range-mapping
+use Rattle.ranges.proofs.decode.decode_worked_out.Reads as decode-worked-out
+use Rattle.ranges.proofs.decode.decode_imapb_in.Reads as decode-imapb-in
 use Rattle.layout.proofs.OneAnswer.{parse-mode1-one, parse-mode2-one, read-header-one, check-matrix-size-fits-one, peek-matrix-size-one, corr-slots-one, triangle-slot-one, bounded-slots-one}
 use Rattle.layout.proofs.control.parse_mode1.Reads as parse-mode1
 use Rattle.layout.proofs.control.parse_mode2.Reads as parse-mode2
@@ -57,22 +63,28 @@ use Rattle.layout.proofs.size.peek_matrix_size.Reads as peek-matrix-size
 use Rattle.layout.proofs.triangle.corr_slots.Reads as corr-slots
 use Rattle.layout.proofs.triangle.triangle_slot.Reads as triangle-slot
 use Rattle.layout.proofs.pack.bounded_slots.Reads as bounded-slots
-use Rattle.elements.proofs.OneAnswer.{open-pack-one, deviation-count-one, pack-of-one, left-one, check-number-one, deviation-at-one, correlation-at-one, slot-at-one, presence-of-one, present-count-one}
+use Rattle.elements.proofs.OneAnswer.{open-pack-one, deviation-count-one, pack-of-one, left-one, check-number-one, value-bits-one, deviation-at-one, correlation-at-one, slot-at-one, presence-of-one, present-count-one}
 use Rattle.elements.proofs.head.open_pack.Reads as open-pack
 use Rattle.elements.proofs.head.deviation_count.Reads as deviation-count
 use Rattle.elements.proofs.head.pack_of.Reads as pack-of
 use Rattle.elements.proofs.number.left.Reads as left
 use Rattle.elements.proofs.number.check_number.Reads as check-number
+use Rattle.elements.proofs.number.value_bits.Reads as value-bits
 use Rattle.elements.proofs.number.deviation_at.Reads as deviation-at
 use Rattle.elements.proofs.number.correlation_at.Reads as correlation-at
 use Rattle.elements.proofs.number.slot_at.Reads as slot-at
 use Rattle.elements.proofs.present.presence_of.Reads as presence-of
 use Rattle.elements.proofs.present.present_count.Reads as present-count
+use Rattle.deviations.proofs.OneAnswer.{check-deviation-range-one, deviation-form-one, deviation-in-one}
+use Rattle.deviations.proofs.form.check_deviation_range.Reads as check-deviation-range
+use Rattle.deviations.proofs.form.deviation_form.Reads as deviation-form
+use Rattle.deviations.proofs.number.deviation_in.Reads as deviation-in
 use Rattle.rules.proofs.OneAnswer.{decide-one, check-rooms-one}
 use Rattle.rules.proofs.decide.decide.Reads as decide
 use Rattle.rules.proofs.rooms.check_rooms.Reads as check-rooms
-use Rattle.reader.proofs.OneAnswer.{decode-sdcc-flp-one}
+use Rattle.reader.proofs.OneAnswer.{decode-sdcc-flp-one, decode-sdcc-flp-in-one}
 use Rattle.reader.proofs.read.decode_sdcc_flp.Reads as decode-sdcc-flp
+use Rattle.reader.proofs.read.decode_sdcc_flp_in.Reads as decode-sdcc-flp-in
 use Rattle.plan.proofs.OneAnswer.{plan-pack-one, zero-of-one}
 use Rattle.plan.proofs.pack.plan_pack.Reads as plan-pack
 use Rattle.plan.proofs.zero.zero_of.Reads as zero-of
@@ -92,7 +104,7 @@ use Rattle.lines.proofs.line.put_line.Reads as put-line
 use Rattle.lines.proofs.line.put_rows.Reads as put-rows
 use Rattle.report.proofs.OneAnswer.{print-pack-one}
 use Rattle.report.proofs.print.print_pack.Reads as print-pack
-use Rattle.replies.proofs.OneAnswer.{letter-one, is-field-one, one-one, words-one, refused-one, special-of-one, special-one, of-mapped-one, widen-one, narrow-one, of-oid-one, of-written-one, of-peek-one, of-read-one, of-cell-one, of-usable-one, put-reply-one}
+use Rattle.replies.proofs.OneAnswer.{letter-one, is-field-one, one-one, words-one, refused-one, special-of-one, special-one, of-mapped-one, widen-one, narrow-one, float-of-one, of-oid-one, of-written-one, of-peek-one, of-read-one, of-cell-one, of-usable-one, put-reply-one}
 use Rattle.replies.proofs.forms.letter.Reads as letter
 use Rattle.replies.proofs.forms.is_field.Reads as is-field
 use Rattle.replies.proofs.reply.one.Reads as one
@@ -103,6 +115,7 @@ use Rattle.replies.proofs.kind.special.Reads as special
 use Rattle.replies.proofs.mapped.of_mapped.Reads as of-mapped
 use Rattle.replies.proofs.numeric.widen.Reads as widen
 use Rattle.replies.proofs.numeric.narrow.Reads as narrow
+use Rattle.replies.proofs.numeric.float_of.Reads as float-of
 use Rattle.replies.proofs.numeric.of_oid.Reads as of-oid
 use Rattle.replies.proofs.outcome.of_written.Reads as of-written
 use Rattle.replies.proofs.pack.of_peek.Reads as of-peek
@@ -160,11 +173,17 @@ pub record Determined : Type 0 where
   pub whole-part-determined : OneResult whole-part.Learnt
   -- mapped values and special codes
   pub decode-imapb-determined : OneResult decode-imapb.Learnt
+  pub unless-special-determined : OneResult unless-special.Learnt
   pub check-range-determined : OneResult check-range.Learnt
   pub imapb-code-determined : OneResult imapb-code.Learnt
   pub imapb-mapping-determined : OneResult imapb-mapping.Learnt
   pub encode-imapb-determined : OneAnswer encode-imapb.Learnt (λ κs s. now (s .1 .1 .0))
   pub encode-imapb-special-determined : OneAnswer encode-imapb-special.Learnt (λ κs s. now (s .1 .1 .0))
+  -- mapped values over a range
+  pub range-check-determined : OneResult range-check.Learnt
+  pub range-mapping-determined : OneResult range-mapping.Learnt
+  pub decode-worked-out-determined : OneResult decode-worked-out.Learnt
+  pub decode-imapb-in-determined : OneResult decode-imapb-in.Learnt
   -- layout
   pub parse-mode1-determined : OneResult parse-mode1.Learnt
   pub parse-mode2-determined : OneResult parse-mode2.Learnt
@@ -180,16 +199,22 @@ pub record Determined : Type 0 where
   pub pack-of-determined : OneResult pack-of.Learnt
   pub left-determined : OneResult left.Learnt
   pub check-number-determined : OneResult check-number.Learnt
+  pub value-bits-determined : OneResult value-bits.Learnt
   pub deviation-at-determined : OneResult deviation-at.Learnt
   pub correlation-at-determined : OneResult correlation-at.Learnt
   pub slot-at-determined : OneResult slot-at.Learnt
   pub presence-of-determined : OneResult presence-of.Learnt
   pub present-count-determined : OneResult present-count.Learnt
+  -- the deviations, over a range or none
+  pub check-deviation-range-determined : OneResult check-deviation-range.Learnt
+  pub deviation-form-determined : OneResult deviation-form.Learnt
+  pub deviation-in-determined : OneResult deviation-in.Learnt
   -- the rules
   pub decide-determined : OneResult decide.Learnt
   pub check-rooms-determined : OneResult check-rooms.Learnt
   -- the reader
   pub decode-sdcc-flp-determined : OneAnswer {L = List ℕ × List ℕ × List ℕ} decode-sdcc-flp.Learnt (λ κs s. (now (s .1 .0), now (s .1 .1 .0), now (s .1 .1 .1 .0)))
+  pub decode-sdcc-flp-in-determined : OneAnswer {L = List ℕ × List ℕ × List ℕ} decode-sdcc-flp-in.Learnt (λ κs s. (now (s .1 .1 .1 .0), now (s .1 .1 .1 .1 .0), now (s .1 .1 .1 .1 .1 .0)))
   -- the writer
   pub plan-pack-determined : OneResult plan-pack.Learnt
   pub zero-of-determined : OneResult zero-of.Learnt
@@ -218,6 +243,7 @@ pub record Determined : Type 0 where
   pub of-mapped-determined : OneResult of-mapped.Learnt
   pub widen-determined : OneResult widen.Learnt
   pub narrow-determined : OneResult narrow.Learnt
+  pub float-of-determined : OneResult float-of.Learnt
   pub of-oid-determined : OneResult of-oid.Learnt
   pub of-written-determined : OneResult of-written.Learnt
   pub of-peek-determined : OneResult of-peek.Learnt
@@ -270,11 +296,16 @@ determined =
       binary32-to-binary64-determined = binary32-to-binary64-one;
       whole-part-determined = whole-part-one;
       decode-imapb-determined = decode-imapb-one;
+      unless-special-determined = unless-special-one;
       check-range-determined = check-range-one;
       imapb-code-determined = imapb-code-one;
       imapb-mapping-determined = imapb-mapping-one;
       encode-imapb-determined = encode-imapb-one;
       encode-imapb-special-determined = encode-imapb-special-one;
+      range-check-determined = range-check-one;
+      range-mapping-determined = range-mapping-one;
+      decode-worked-out-determined = decode-worked-out-one;
+      decode-imapb-in-determined = decode-imapb-in-one;
       parse-mode1-determined = parse-mode1-one;
       parse-mode2-determined = parse-mode2-one;
       read-header-determined = read-header-one;
@@ -288,14 +319,19 @@ determined =
       pack-of-determined = pack-of-one;
       left-determined = left-one;
       check-number-determined = check-number-one;
+      value-bits-determined = value-bits-one;
       deviation-at-determined = deviation-at-one;
       correlation-at-determined = correlation-at-one;
       slot-at-determined = slot-at-one;
       presence-of-determined = presence-of-one;
       present-count-determined = present-count-one;
+      check-deviation-range-determined = check-deviation-range-one;
+      deviation-form-determined = deviation-form-one;
+      deviation-in-determined = deviation-in-one;
       decide-determined = decide-one;
       check-rooms-determined = check-rooms-one;
       decode-sdcc-flp-determined = decode-sdcc-flp-one;
+      decode-sdcc-flp-in-determined = decode-sdcc-flp-in-one;
       plan-pack-determined = plan-pack-one;
       zero-of-determined = zero-of-one;
       write-slots-determined = write-slots-one;
@@ -320,6 +356,7 @@ determined =
       of-mapped-determined = of-mapped-one;
       widen-determined = widen-one;
       narrow-determined = narrow-one;
+      float-of-determined = float-of-one;
       of-oid-determined = of-oid-one;
       of-written-determined = of-written-one;
       of-peek-determined = of-peek-one;

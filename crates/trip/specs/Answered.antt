@@ -1,30 +1,37 @@
 -- Demand 1, one half: every input of every public function that answers by the table has an answer of it.
 use mathlib.Core.List.{List}
 use Prim.Native.Nat.{ℕ}
+use lib.Ieee.{Float}
 use Rattle.answers.specs.Listed.{InTable}
 use Rattle.imapb.specs.Tables.{rangeRule, imapbWritten, specialWritten}
 use Rattle.imapb.specs.declared.special.ImapbSpecial.{ImapbSpecial}
+use Rattle.ranges.specs.Tables.{lengthRule, sliceRule}
+use Rattle.ranges.specs.Tables as ranges
 use Rattle.layout.specs.declared.control.ParseControl.{ParseControl}
 use Rattle.layout.specs.Header.{headRules}
 use Rattle.layout.specs.Size.{sizeRules, fitRules}
 use Rattle.elements.specs.declared.head.Head.{Head}
+use Rattle.deviations.specs.declared.form.DeviationRange.{DeviationRange}
+use Rattle.deviations.specs.Range.{lentRule}
 use Rattle.rules.specs.Rules.{packRules, roomRules}
 use Rattle.plan.specs.Rules.{planRules}
 use Rattle.slots.specs.Rules.{slotsRules}
 use Rattle.layout.specs.declared.pack.SdccFlp.{SdccFlp}
 use Rattle.matrix.specs.Lookup.{cellAnswer}
 use Rattle.numbers.specs.BerOid.{oidWritten}
-use Rattle.reader.specs.Rules.{readAnswer}
+use Rattle.reader.specs.Rules.{readAnswerIn, readAnswer}
 use Rattle.report.specs.Printed.{printAnswer}
 use Rattle.writer.specs.Rules.{writeAnswer}
 
 pub record Answered : Type 0 where
-  -- the reader, for every byte string and all rooms; the header and the size check within it
+  -- the reader, for every byte string, all rooms and every range or none; the header and the size check within it
+  pub reads-in : (range : DeviationRange) (bytes : List ℕ) (d c p : ℕ) → InTable (readAnswerIn range bytes d c p)
   pub reads : (bytes : List ℕ) (d c p : ℕ) → InTable (readAnswer bytes d c p)
   pub heads : (bytes : List ℕ) → InTable (headRules bytes)
   pub fits : (n R : ℕ) (k : ParseControl) → InTable (sizeRules n R k)
   pub opens : (bytes : List ℕ) → InTable (fitRules bytes)
-  pub decides : (bytes : List ℕ) → InTable (packRules bytes)
+  pub lent : (range : DeviationRange) → InTable (lentRule range)
+  pub decides : (range : DeviationRange) (bytes : List ℕ) → InTable (packRules range bytes)
   pub rooms : (h : Head) (d c p : ℕ) → InTable (roomRules h d c p)
   -- the writer, for all numbers and rooms; the plan and the slots within it
   pub writes : (ds cs : List ℕ) (L room : ℕ) → InTable (writeAnswer ds cs L room)
@@ -34,6 +41,9 @@ pub record Answered : Type 0 where
   -- mapped values and special codes
   pub maps : (L v room : ℕ) → InTable (imapbWritten L v room)
   pub checks : (v : ℕ) → InTable (rangeRule v)
+  pub lengths : (L : ℕ) → InTable (lengthRule L)
+  pub ranges : (min max : Float) → InTable (ranges.rangeRule min max)
+  pub slices : (L : ℕ) (bytes : List ℕ) → InTable (sliceRule L bytes)
   pub maps-special : (L : ℕ) (s : ImapbSpecial) (room : ℕ) → InTable (specialWritten L s room)
   -- cell lookup
   pub looks-up : (p : SdccFlp) (ds cs : List ℕ) (i j : ℕ) → InTable (cellAnswer p ds cs i j)

@@ -3,10 +3,14 @@ use Prim.Native.Nat.{ℕ}
 use mathlib.Core.List.{List, [], _∷_, _++_}
 use lib.Dec.{eqb}
 use lib.ListN.{length, replicate}
+use lib.Ieee.{binary64, ofBits}
 use Rattle.answers.specs.Table.{Answer, answer, short, wholes, pick}
 use Rattle.layout.specs.Size.{maxRows, maxSlots}
-use Rattle.elements.specs.Elements.{headOf, deviations, correlations, presence}
-use Rattle.reader.specs.Rules.{readAnswer}
+use Rattle.elements.specs.Elements.{headOf, correlations, presence}
+use Rattle.deviations.specs.declared.form.DeviationRange.{DeviationRange}
+use Rattle.deviations.specs.declared.form.DeviationRange.the-variants.{Unknown, Known}
+use Rattle.deviations.specs.Range.{deviationsOver}
+use Rattle.reader.specs.Rules.{readAnswerIn}
 use Rattle.writer.specs.Pack.{packBytes}
 use Rattle.writer.specs.Rules.{writeAnswer}
 
@@ -20,14 +24,14 @@ pub record Outcome : Type 0 where
 abbrev pub outcomeOf : Answer → List ℕ → List ℕ → List ℕ → Outcome
 outcomeOf a ds cs ps = record { answers = a; deviations = ds; correlations = cs; presence = ps }
 
--- with room enough for any pack within the limits
-abbrev pub outcome : List ℕ → Outcome
-outcome bytes = given (readAnswer bytes maxRows maxSlots maxSlots)
+-- over a range or none, with room enough for any pack within the limits
+abbrev pub outcome : DeviationRange → List ℕ → Outcome
+outcome range bytes = given (readAnswerIn range bytes maxRows maxSlots maxSlots)
   where
     given : Answer → Outcome
     given a =
         pick (eqb (a .number) 0)
-        (outcomeOf a (deviations bytes (headOf bytes)) (correlations bytes (headOf bytes))
+        (outcomeOf a (deviationsOver range bytes (headOf bytes)) (correlations bytes (headOf bytes))
         (presence bytes (headOf bytes)))
         (outcomeOf a [] [] [])
 
@@ -51,9 +55,11 @@ one = 0x3FF0000000000000
 abbrev half : ℕ
 half = 0x3FE0000000000000
 
--- a pack that is read, and what it gives; or deviations, correlations and Clen that are written, and their pack
+-- a pack that is read, over a range by the bits of its ends or over none, and what it gives; or deviations, correlations
+-- and Clen that are written, and their pack
 pub data Row : Type 0 where
   reads : List ℕ → Outcome → Row
+  reads-in : ℕ → ℕ → List ℕ → Outcome → Row
   writes : List ℕ → List ℕ → ℕ → List ℕ → Row
 
 -- a pack of two rows with one correlation: its value, and whether it is present
@@ -93,17 +99,40 @@ shortTable =
     ∷ reads (0x03 ∷ 0x92 ∷ 0x04 ∷ (D ++ (0x3F ∷ 0x80 ∷ 0x00 ∷ 0x00 ∷ 0x60 ∷ 0x00 ∷ 0x60 ∷ []))) (refused (short 2 1))
     ∷ []
 
+-- packs over a range, from 0 to 50 unless said: with Slen 2 the codes 0200 and 0400 are 1 and 2, and 6400 is the top code
+abbrev fifty : ℕ
+fifty = 0x4049000000000000
+
+abbrev pub rangeTable : List Row
+rangeTable =
+    reads-in 0 fifty (0x02 ∷ 0x91 ∷ 0x12 ∷ 0x02 ∷ 0x00 ∷ 0x04 ∷ 0x00 ∷ 0x60 ∷ []) (pair half 1)
+    -- with Sf=0 all is as without a range, and without one Sf=1 is refused as before
+    ∷ reads-in 0 fifty (0x02 ∷ 0x91 ∷ 0x04 ∷ (D ++ (0x60 ∷ []))) (pair half 1)
+    ∷ reads (0x02 ∷ 0x91 ∷ 0x12 ∷ 0x02 ∷ 0x00 ∷ 0x04 ∷ 0x00 ∷ 0x60 ∷ []) (refused (answer 2 (wholes (0 ∷ 2 ∷ []))))
+    -- a code above the top code in row 1; Slen 9
+    ∷ reads-in 0 fifty (0x02 ∷ 0x91 ∷ 0x12 ∷ 0x02 ∷ 0x00 ∷ 0x64 ∷ 0x01 ∷ 0x60 ∷ []) (refused (answer 8 (wholes (1 ∷ []))))
+    ∷ reads-in 0 fifty (0x01 ∷ 0x90 ∷ 0x19 ∷ replicate 9 0) (refused (answer 4 (wholes (9 ∷ []))))
+    -- a special in row 0 comes before the bytes that are missing at row 4
+    ∷ reads-in 0 fifty (0x05 ∷ 0xA1 ∷ 0x12 ∷ 0x00 ∷ 0x00 ∷ 0xC8 ∷ replicate 7 0) (refused (answer 8 (wholes (0 ∷ []))))
+    ∷ reads-in 0 fifty (0x05 ∷ 0xA1 ∷ 0x12 ∷ 0x00 ∷ 0x00 ∷ replicate 8 0) (refused (short 2 0))
+    -- a bad range, 1 to 1, comes before a)
+    ∷ reads-in one one [] (refused (answer 9 []))
+    ∷ []
+
 -- what a row comes to, with room for just that pack where it is written, and what it is to come to
 pub data Result : Type 0 where
   read : Outcome → Result
   wrote : Answer → List ℕ → Result
 
 abbrev pub comesTo : Row → Result
-comesTo (reads bytes gives) = read (outcome bytes)
+comesTo (reads bytes gives) = read (outcome Unknown bytes)
+comesTo (reads-in min max bytes gives) =
+    read (outcome (Known (ofBits binary64 min) (ofBits binary64 max)) bytes)
 comesTo (writes ds cs L pack) = wrote (writeAnswer ds cs L (length pack)) (packBytes ds cs L)
 
 abbrev pub isTo : Row → Result
 isTo (reads bytes gives) = read gives
+isTo (reads-in min max bytes gives) = read gives
 isTo (writes ds cs L pack) = wrote (answer 0 (wholes (length pack ∷ []))) pack
 
 abbrev pub outcomes : List Row → List Result

@@ -7,25 +7,26 @@ use native.Mathlib.Omega.{arith}
 use borrow.Author.Needs.{needs}
 use Rattle.answers.specs.Lent.{tab}
 use Rattle.answers.proofs.Lent.{Front}
-use Rattle.elements.specs.Elements.{deviationIn}
+use Rattle.deviations.specs.Form.{formListed}
+use Rattle.reader.specs.Rows.{formIn}
 use Rattle.answers.proofs.Tab.{tab-none, tab-room, tab-more, tab-done}
 use Rattle.reader.proofs.Filled.{turn-value, turn-never, DeviationTurn, deviation-turn}
 use Rattle.reader.proofs.fill.fill_deviations.Statement.{statement}
 use Rattle.reader.proofs.fill.fill_deviations.Tie as tie
 
 abbrev Inv-loop : tie.InvT-loop
-Inv-loop bytes at control count out₀ size next₀ i₀ out next i =
-    Front (tab count (deviationIn bytes at control)) out₀ i out × (next ≡ at + i * control .slen)
+Inv-loop bytes at control form count out₀ size next₀ i₀ out next i =
+    Front (tab count (formIn bytes at control (formListed form))) out₀ i out × (next ≡ at + i * control .slen)
 
 abbrev μ-loop : tie.MeasureT-loop
-μ-loop bytes at control count out₀ size next₀ i₀ out next i = count - i
+μ-loop bytes at control form count out₀ size next₀ i₀ out next i = count - i
 
 abbrev start : tie.At-loop Inv-loop μ-loop → tie.Start Inv-loop μ-loop
 start c = c .before .before .before .before
 
 -- deviation i of the arguments
 abbrev deviation : tie.Start Inv-loop μ-loop → ℕ → ℕ
-deviation c = deviationIn (c .args .bytes .now) (c .args .at) (c .args .control)
+deviation c = formIn (c .args .bytes .now) (c .args .at) (c .args .control) (formListed (c .args .form))
 
 cast-size : tie.Need-cast-size Inv-loop μ-loop
 cast-size c = omega arith
@@ -33,17 +34,17 @@ cast-size c = omega arith
 loop-holds : tie.Need-loop-holds Inv-loop μ-loop
 loop-holds c =
     let s = c .before .before .before in
-    (tab-none (s .args .count) (deviation s) (s .pre .2), omega (arith, zero-mul (s .args .control .slen)))
+    (tab-none (s .args .count) (deviation s) (s .pre .1), omega (arith, zero-mul (s .args .control .slen)))
 
-deviation-at-requires : tie.Need-deviation-at-requires Inv-loop μ-loop
-deviation-at-requires c κs = search needs
+deviation-in-requires : tie.Need-deviation-in-requires Inv-loop μ-loop
+deviation-in-requires c κs = search needs
 
 turn : (c : tie.In-loop Inv-loop μ-loop)
     → let a = start (c .before) .args in
-    DeviationTurn (a .bytes .now) (a .at) (a .control) (c .before .loop .i) (c .before .loop .next)
+    DeviationTurn (a .bytes .now) (a .at) (a .control) (formListed (a .form)) (c .before .loop .i) (c .before .loop .next)
 turn c =
     let s = start (c .before) in
-    deviation-turn (s .args .bytes .now) (s .args .at) (s .args .control) (s .pre .0) (s .pre .1) (c .loop-test .taken) (c .before .loop .inv .1)
+    deviation-turn (s .args .bytes .now) (s .args .at) (s .args .control) (formListed (s .args .form)) (s .pre .0) (c .loop-test .taken) (c .before .loop .inv .1)
 
 enum-known-number : tie.Need-enum-known-number Inv-loop μ-loop
 enum-known-number c = search needs
@@ -57,7 +58,7 @@ same-length c = c .before .before .before .before .loop .inv .0 .long
 returns : tie.Need-returns Inv-loop μ-loop
 returns c =
     let d = c .before .before in
-    absurd (turn-never (turn (d .before)) (d .deviation-at .ensures) (c .enum-told .given .1))
+    absurd (turn-never (turn (d .before)) (d .deviation-in .ensures) (c .enum-told .given .1))
 
 mul-out : tie.Need-mul-out Inv-loop μ-loop
 mul-out c = omega arith
@@ -83,7 +84,7 @@ loop-again c =
     let w = d .before in
     let s = start (w .before) in
     let l = w .before .loop in
-    let x = turn-value (turn w) (d .deviation-at .ensures) (c .before .number .given .1) in
+    let x = turn-value (turn w) (d .deviation-in .ensures) (c .before .number .given .1) in
     (tab-more (s .args .count) (deviation s) (l .inv .0) (w .loop-test .taken) x, turn w .on)
 
 same-length-2 : tie.Need-same-length-2 Inv-loop μ-loop
@@ -102,7 +103,7 @@ fill-deviations-spec =
     μ-loop
     cast-size
     loop-holds
-    deviation-at-requires
+    deviation-in-requires
     enum-known-number
     enum-told
     same-length

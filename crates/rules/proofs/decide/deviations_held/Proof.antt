@@ -1,20 +1,40 @@
 -- `decide::deviations_held` meets its contract.
 -- Assumes nothing.
 use mathlib.Core.Path.{_≡_, sym, ap, _∙_}
+use native.Mathlib.Nat.{le-trans}
 use native.Mathlib.Omega.{arith}
 use borrow.Author.Needs.{needs}
-use Rattle.elements.specs.Elements.{deviationsAt}
+use Rattle.elements.specs.Elements.{deviationsAt, deviationCount}
 use Rattle.elements.specs.declared.head.Places.{Places}
 use Rattle.rules.proofs.Decided.{by-first-deviation}
-use Rattle.rules.proofs.Held.{few-deviations}
+use Rattle.rules.proofs.Held.{count-le, few-deviations}
 use Rattle.rules.proofs.decide.deviations_held.Statement.{statement}
 use Rattle.rules.proofs.decide.deviations_held.Tie as tie
 
-deviation-at-requires : tie.Need-deviation-at-requires
-deviation-at-requires c κs = search needs
-
 deviation-count-requires : tie.Need-deviation-count-requires
 deviation-count-requires c κs = search needs
+
+enum-told : tie.Need-enum-told
+enum-told c = search needs
+
+-- the deviations start within the bytes
+starts : (s : tie.Start) → s .args .places .deviations ≡ deviationsAt (s .args .places .head)
+starts s = ap (λ (x : Places). x .deviations) (s .pre .is)
+
+rows-in-turn-requires : tie.Need-rows-in-turn-requires
+rows-in-turn-requires c κs =
+    let d = c .before .before in
+    let s = d .before .before .before .before in
+    (rw (starts s) (s .pre .within .vector), rw (d .deviation-count .ensures) (le-trans (count-le (s .args .places .head)) (s .pre .within .rows)))
+
+returns : tie.Need-returns
+returns c = rw (c .before .before .before .deviation-count .ensures) at (c .rows-in-turn .ensures)
+
+enum-told-2 : tie.Need-enum-told-2
+enum-told-2 c = search needs
+
+deviation-in-requires : tie.Need-deviation-in-requires
+deviation-in-requires c κs = search needs
 
 cast-in-turn : tie.Need-cast-in-turn
 cast-in-turn c = search needs
@@ -24,23 +44,31 @@ left-requires c κs = search needs
 
 in-turn-requires : tie.Need-in-turn-requires
 in-turn-requires c κs =
-    let s = c .before .before .before .before .before .before .before in
-    rw (c .before .before .deviation-count .ensures) (omega (arith, few-deviations (s .pre .within)))
+    let d = c .before .before .before .before .before in
+    let s = d .before .before .before .before in
+    rw (d .deviation-count .ensures) (omega (arith, few-deviations (s .pre .within)))
 
-returns : tie.Need-returns
-returns c =
-    let s = c .before .before .before .before .before .before .before .before in
-    let p : s .args .places .deviations ≡ deviationsAt (s .args .places .head) = ap (λ (x : Places). x .deviations) (s .pre .is) in
-    rw (c .before .left .ensures, c .before .before .before .deviation-count .ensures, c .before .before .before .before .deviation-at .ensures, p) at (c .in-turn .ensures)
-    ∙ sym (by-first-deviation (s .args .bytes .now) (s .args .places .head))
+returns-2 : tie.Need-returns-2
+returns-2 c =
+    let f = c .before .before .before .before in
+    let d = f .before .before in
+    let s = d .before .before .before .before in
+    let a = s .args in
+    rw (f .enum-told2 .given .1)
+    (rw (c .before .left .ensures, d .deviation-count .ensures, c .before .before .before .deviation-in .ensures, f .enum-told2 .given .1) at (c .in-turn .ensures)
+    ∙ sym (by-first-deviation (a .bytes .now) (a .places .deviations) (a .places .head .control) (deviationCount (a .places .head))))
 
 pub deviations-held-spec : {M : Type 1} → statement M
 deviations-held-spec =
     tie.close
     (tie.spec
-    deviation-at-requires
     deviation-count-requires
+    enum-told
+    rows-in-turn-requires
+    returns
+    enum-told-2
+    deviation-in-requires
     cast-in-turn
     left-requires
     in-turn-requires
-    returns)
+    returns-2)

@@ -3,7 +3,9 @@
 use mathlib.Core.Path.{sym, _∙_}
 use borrow.Author.Needs.{needs}
 use Rattle.answers.proofs.Next.{stops, goes}
-use Rattle.rules.specs.Rules.{ruleH}
+use Rattle.elements.specs.Elements.{deviationCount}
+use Rattle.deviations.specs.Form.{formListed}
+use Rattle.rules.specs.Decided.{formRule}
 use Rattle.rules.proofs.decide.elements_whole.Statement.{statement}
 use Rattle.rules.proofs.decide.elements_whole.Tie as tie
 
@@ -19,7 +21,7 @@ enum-told-2 c = search needs
 returns : tie.Need-returns
 returns c =
     let a = c .before .before .before .before .args in
-    stops (ruleH (a .bytes .now) (a .places .head)) _ (c .before .before .deviations-held .ensures) (c .enum-told2 .given .1)
+    stops (formRule (a .bytes .now) (a .places .deviations) (a .places .head .control) (formListed (a .form)) (deviationCount (a .places .head))) _ (c .before .before .deviations-held .ensures) (c .enum-told2 .given .1)
 
 codes-whole-requires : tie.Need-codes-whole-requires
 codes-whole-requires c κs = search needs
@@ -28,7 +30,7 @@ returns-2 : tie.Need-returns-2
 returns-2 c =
     let a = c .before .before .before .before .before .args in
     c .codes-whole .ensures
-    ∙ sym (goes (ruleH (a .bytes .now) (a .places .head)) _ (c .before .before .before .deviations-held .ensures) (c .before .enum-told .given .1))
+    ∙ sym (goes (formRule (a .bytes .now) (a .places .deviations) (a .places .head .control) (formListed (a .form)) (deviationCount (a .places .head))) _ (c .before .before .before .deviations-held .ensures) (c .before .enum-told .given .1))
 
 pub elements-whole-spec : {M : Type 1} → statement M
 elements-whole-spec =

@@ -1,22 +1,23 @@
--- `read::decode_sdcc_flp` meets its contract: rules a) to l) in their order, and then the numbers.
+-- `read::read_pack` meets its contract: the rules in their order, and then the numbers.
 -- Assumes nothing.
 use mathlib.Core.Path.{_≡_, refl, sym}
 use borrow.Author.Needs.{needs}
 use lib.ListN.{length}
 use Rattle.answers.specs.Outcome.{found}
 use Rattle.answers.specs.Table.{passes}
-use Rattle.elements.specs.Listed.{verdict}
+use Rattle.deviations.specs.Form.{formListed}
+use Rattle.rules.specs.Decided.{ready, decided}
 use Rattle.reader.proofs.Whole.{pack-stops, room-stops, deviations-there, slots-there, kept, stored}
 use Rattle.reader.specs.declared.read.ReadAnswer.the-variants.{Refused}
-use Rattle.rules.specs.Rules.{packRules, roomRules}
-use Rattle.reader.proofs.read.decode_sdcc_flp.Statement.{statement}
-use Rattle.reader.proofs.read.decode_sdcc_flp.Tie as tie
+use Rattle.rules.specs.Rules.{roomRules}
+use Rattle.reader.proofs.read.read_pack.Statement.{statement}
+use Rattle.reader.proofs.read.read_pack.Tie as tie
 
 abbrev start : tie.After-decide → tie.Start
 start c = c .before .before .before .before .before
 
 -- the pack that rules a) to k) have passed
-was-open : (c : tie.After-decided2) → let b = start (c .before .before) .args .bytes .now in found (c .decided2 .given .0 .0) ≡ verdict b (packRules b)
+was-open : (c : tie.After-decided2) → let b = start (c .before .before) .args .bytes .now in found (ready (c .decided2 .given .0 .0) (formListed (c .decided2 .given .0 .1 .0))) ≡ decided (start (c .before .before) .args .range) b
 was-open c = rw (c .decided2 .given .1) at (c .before .before .decide .ensures)
 
 -- and rule l)
@@ -40,8 +41,8 @@ returns c =
     let a = start d .args in
     let e = c .before .decided .given in
     let r = e .0 .0 in
-    kept (Refused r) (a .bytes .now) (a .deviations .now) (a .correlations .now) (a .presence .now) r refl
-    (pack-stops (a .bytes .now) (length (a .deviations .now)) (length (a .correlations .now)) (length (a .presence .now)) r
+    kept (Refused r) (a .range) (a .bytes .now) (a .deviations .now) (a .correlations .now) (a .presence .now) r refl
+    (pack-stops (a .range) (a .bytes .now) (length (a .deviations .now)) (length (a .correlations .now)) (length (a .presence .now)) r
     (rw (e .1) at (d .decide .ensures)))
 
 enum-known-decided-2 : tie.Need-enum-known-decided-2
@@ -60,8 +61,8 @@ returns-2 c =
     let a = start (o .before .before) .args in
     let e = c .before .rooms .given in
     let r = e .0 .0 in
-    kept (Refused r) (a .bytes .now) (a .deviations .now) (a .correlations .now) (a .presence .now) r refl
-    (room-stops (a .bytes .now) (length (a .deviations .now)) (length (a .correlations .now)) (length (a .presence .now)) (was-open o) r
+    kept (Refused r) (a .range) (a .bytes .now) (a .deviations .now) (a .correlations .now) (a .presence .now) r refl
+    (room-stops (a .range) (a .bytes .now) (length (a .deviations .now)) (length (a .correlations .now)) (length (a .presence .now)) (was-open o) r
     (rw (e .1) at (k .check-rooms .ensures)))
 
 enum-told : tie.Need-enum-told
@@ -74,14 +75,14 @@ fill-deviations-requires : tie.Need-fill-deviations-requires
 fill-deviations-requires c κs =
     let t = c .before .before in
     let a = start (opened t .before .before) .args in
-    rw (c .before .pack-of .ensures) (deviations-there (a .bytes .now) (a .deviations .now) (a .correlations .now) (a .presence .now) (was-open (opened t)) (has-room t))
+    rw (c .before .pack-of .ensures) (deviations-there (a .range) (a .bytes .now) (a .deviations .now) (a .correlations .now) (a .presence .now) (was-open (opened t)) (has-room t))
 
 fill-slots-requires : tie.Need-fill-slots-requires
 fill-slots-requires c κs =
     let p = c .before .before .before .before .before .before in
     let t = p .before in
     let a = start (opened t .before .before) .args in
-    rw (p .pack-of .ensures) (slots-there (a .bytes .now) (a .deviations .now) (a .correlations .now) (a .presence .now) (was-open (opened t)) (has-room t))
+    rw (p .pack-of .ensures) (slots-there (a .range) (a .bytes .now) (a .deviations .now) (a .correlations .now) (a .presence .now) (was-open (opened t)) (has-room t))
 
 same-length : tie.Need-same-length
 same-length c = c .before .before .before .before .before .before .before .before .deviations .given
@@ -100,11 +101,11 @@ returns-3 c =
     let t = p .before in
     let a = start (opened t .before .before) .args in
     let e = p .pack-of .ensures in
-    let s = stored (a .bytes .now) (a .deviations .now) (a .correlations .now) (a .presence .now) (was-open (opened t)) (has-room t) in
+    let s = stored (a .range) (a .bytes .now) (a .deviations .now) (a .correlations .now) (a .presence .now) (was-open (opened t)) (has-room t) in
     s e (rw e at (d .fill-deviations .ensures)) (rw e at (f .fill-slots .ensures .0)) (rw e at (f .fill-slots .ensures .1))
 
-pub decode-sdcc-flp-spec : {M : Type 1} → statement M
-decode-sdcc-flp-spec =
+pub read-pack-spec : {M : Type 1} → statement M
+read-pack-spec =
     tie.close
     (tie.spec
     decide-requires
