@@ -1,12 +1,15 @@
 //! The answer to a request: each calls a function of the port, and puts what that answers.
 use crate::cells::on_matrix;
 use crate::prints::put_print;
+use crate::ranged::mapped_in;
 use crate::reads::put_read;
 use crate::writes::put_write;
 use imapb::decode::decode_imapb;
 use layout::size::peek_matrix_size;
 use numbers::ber_oid::read_ber_oid;
 use replies::forms::BAD_REQUEST;
+use replies::forms::MAPPED_IN;
+use replies::forms::READ_IN;
 use replies::mapped::of_mapped;
 use replies::numeric;
 use replies::numeric::of_oid;
@@ -27,6 +30,7 @@ fn short(request: Request, given: &[u8], lists: &[u64]) -> Reply {
         3 => of_mapped(decode_imapb(request.size as usize, given)),
         4 => of_peek(peek_matrix_size(given)),
         5 | 6 => on_matrix(request, lists),
+        MAPPED_IN => mapped_in(request, given),
         _ => words(BAD_REQUEST),
     }
 }
@@ -42,14 +46,14 @@ fn answer_given(
     let form = request.form;
     match form {
         7 => put_print(given, at, out),
-        8 => put_read(request, given, lists, at, out),
+        8 | READ_IN => put_read(request, given, lists, at, out),
         _ => put_reply(short(request, given, lists), at, out),
     }
 }
 
 // Whether it is one of map, special and write, which write into what is lent.
 fn writes(form: usize) -> bool {
-    8 < form && form < BAD_REQUEST
+    8 < form && form < MAPPED_IN
 }
 
 // What a request gives stands in the front of the bytes, and what it writes goes there.

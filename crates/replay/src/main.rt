@@ -4,6 +4,7 @@ mod cells;
 mod input;
 mod lists;
 mod prints;
+mod ranged;
 mod reads;
 mod writes;
 

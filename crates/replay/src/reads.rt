@@ -1,6 +1,8 @@
-//! The request that reads a pack: read.
+//! The requests that read a pack: read, read-in.
+use crate::ranged::read_in;
 use reader::read::ReadAnswer;
 use reader::read::decode_sdcc_flp;
+use replies::forms::READ_IN;
 use requests::limits::ROWS;
 use requests::limits::SLOTS;
 use requests::request::Request;
@@ -21,8 +23,23 @@ fn room_for_presence() -> [u8; SLOTS] {
     [MARK; SLOTS]
 }
 
+// By the reader that is lent a range, or by the one that is lent none.
+fn decode(
+    request: Request,
+    pack: &[u8],
+    deviations: &mut [u64],
+    correlations: &mut [u64],
+    presence: &mut [u8],
+) -> ReadAnswer {
+    if request.form == READ_IN {
+        return read_in(request, pack, deviations, correlations, presence);
+    }
+    decode_sdcc_flp(pack, deviations, correlations, presence)
+}
+
 // As much is lent as the request says.
 fn read(
+    request: Request,
     lent: Lent,
     pack: &[u8],
     deviations: &mut [u64],
@@ -33,7 +50,8 @@ fn read(
     let rows = within_words(lent.deviations as usize, deviations);
     let slots = within_words(lent.correlations as usize, correlations);
     let flags = within(lent.presence as usize, presence);
-    decode_sdcc_flp(
+    decode(
+        request,
         pack,
         &mut deviations[..rows],
         &mut correlations[..slots],
@@ -55,6 +73,13 @@ pub(crate) fn put_read(
         correlations: request.slots,
         presence: request.room,
     };
-    let read = read(lent, pack, &mut deviations, correlations, &mut presence);
+    let read = read(
+        request,
+        lent,
+        pack,
+        &mut deviations,
+        correlations,
+        &mut presence,
+    );
     put_pack(lent, read, &deviations, correlations, &presence, at, out)
 }

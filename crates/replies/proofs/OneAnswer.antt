@@ -12,6 +12,7 @@ use Rattle.replies.proofs.refusal.refused.Reads as refused
 use Rattle.replies.proofs.kind.special_of.Reads as special-of
 use Rattle.replies.proofs.kind.special.Reads as special
 use Rattle.replies.proofs.mapped.of_mapped.Reads as of-mapped
+use Rattle.replies.proofs.numeric.float_of.Reads as float-of
 use Rattle.replies.proofs.numeric.widen.Reads as widen
 use Rattle.replies.proofs.numeric.narrow.Reads as narrow
 use Rattle.replies.proofs.numeric.of_oid.Reads as of-oid
@@ -45,6 +46,9 @@ special-one κs a r r′ s s′ p q = p ∙ sym q
 
 pub of-mapped-one : OneResult of-mapped.Learnt
 of-mapped-one κs a r r′ s s′ p q = p ∙ sym q
+
+pub float-of-one : OneResult float-of.Learnt
+float-of-one κs a r r′ s s′ p q = p ∙ sym q
 
 pub widen-one : OneResult widen.Learnt
 widen-one κs a r r′ s s′ p q = p ∙ sym q

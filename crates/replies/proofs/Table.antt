@@ -12,11 +12,11 @@ use Rattle.replies.specs.Forms.{forms, formOf, letterOf}
 abbrev pub tabled : ℕ → ℕ
 tabled k = letterOf (k / 24) (k % 24)
 
-pub letter-at : (form i : ℕ) → form < 44 → i < 24 → getD (ruled tabled 1056 0) (form * 24 + i) 0 ≡ letterOf form i
+pub letter-at : (form i : ℕ) → form < 46 → i < 24 → getD (ruled tabled 1104 0) (form * 24 + i) 0 ≡ letterOf form i
 letter-at form i h k =
     let d : (0 + (form * 24 + i)) / 24 ≡ form = omega arith in
     let m : (0 + (form * 24 + i)) % 24 ≡ i = omega arith in
-    ruled-at tabled 0 1056 0 (form * 24 + i) (omega arith) ∙ ap₂ letterOf d m
+    ruled-at tabled 0 1104 0 (form * 24 + i) (omega arith) ∙ ap₂ letterOf d m
 
 abbrev longest : List (List ℕ) → ℕ
 longest [] = 0
@@ -31,7 +31,7 @@ longest-is : longest forms ≡ 24
 unfolding forms
 longest-is = refl
 
-count-is : length forms ≡ 44
+count-is : length forms ≡ 46
 unfolding forms
 count-is = refl
 
@@ -39,7 +39,7 @@ pub form-short : (form : ℕ) → length (formOf form) ≤ 24
 form-short form = omega (arith, within forms form, longest-is)
 
 -- past the last form, and past a form's end
-pub no-form : (form i : ℕ) → 44 ≤ form → letterOf form i ≡ 0x2e
+pub no-form : (form i : ℕ) → 46 ≤ form → letterOf form i ≡ 0x2e
 no-form form i h = rw (List·getD-eq-default forms [] {n = form} (omega (arith, count-is)))
 
 pub no-letter : (form i : ℕ) → 24 ≤ i → letterOf form i ≡ 0x2e

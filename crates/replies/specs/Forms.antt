@@ -30,6 +30,8 @@ forms =
     ∷ ascii "special -snan P, N R"
     ∷ ascii "special below P, N R"
     ∷ ascii "special above P, N R"
+    ∷ ascii "mapped-in X Y N H"
+    ∷ ascii "read-in X Y D E F H"
     ∷ ascii "bad request"
     ∷ ascii "refused A"
     ∷ ascii "refused A B"

@@ -4,7 +4,7 @@ ghost use Rattle.replies.specs.Forms.{letterOf, isField};
 
 // Words stand for themselves, a capital for a field of the request or a value of the reply, and a dot for the end.
 // A reply ends at a comma, which a request has none of: `special` is asked for as it is replied.
-const FORMS: [u8; 1056] = *b"\
+const FORMS: [u8; 1104] = *b"\
     widen W.................\
     narrow X................\
     oid H...................\
@@ -26,6 +26,8 @@ const FORMS: [u8; 1056] = *b"\
     special -snan P, N R....\
     special below P, N R....\
     special above P, N R....\
+    mapped-in X Y N H.......\
+    read-in X Y D E F H.....\
     bad request.............\
     refused A...............\
     refused A B.............\
@@ -52,55 +54,59 @@ const FORMS: [u8; 1056] = *b"\
 
 pub const WIDTH: usize = 24;
 
-const COUNT: usize = 44;
+const COUNT: usize = 46;
 
-// The requests come first: 0 to 6 are replied to by a form, 7 and 8 are print and read, and 9 to 20 write,
+// The requests come first: 0 to 6 and 21 are replied to by a form, 7 is print, 8 and 22 read, and 9 to 20 write,
 // from 12 on the special kinds.
 pub const CELL: usize = 5;
 
 pub const WRITE: usize = 11;
 
+pub const MAPPED_IN: usize = 21;
+
+pub const READ_IN: usize = 22;
+
 // What is none of them is replied to by this form, and the other replies follow.
-pub const BAD_REQUEST: usize = 21;
+pub const BAD_REQUEST: usize = 23;
 
 // A refusal's number alone; the three forms behind it have a value more each, and the last has binary64s.
-pub const REFUSED: usize = 22;
+pub const REFUSED: usize = 24;
 
-pub const REFUSED_BITS: usize = 26;
+pub const REFUSED_BITS: usize = 28;
 
-pub const EMPTY: usize = 27;
+pub const EMPTY: usize = 29;
 
-pub const BITS: usize = 28;
+pub const BITS: usize = 30;
 
-pub const BITS32: usize = 29;
+pub const BITS32: usize = 31;
 
-pub const OID: usize = 30;
+pub const OID: usize = 32;
 
-pub const SIZE: usize = 31;
+pub const SIZE: usize = 33;
 
-pub const NOTHING: usize = 32;
+pub const NOTHING: usize = 34;
 
-pub const VALUE: usize = 33;
+pub const VALUE: usize = 35;
 
-pub const OUTSIDE: usize = 34;
+pub const OUTSIDE: usize = 36;
 
-pub const RESERVED: usize = 35;
+pub const RESERVED: usize = 37;
 
-pub const NUMBER: usize = 36;
+pub const NUMBER: usize = 38;
 
-pub const NO: usize = 37;
+pub const NO: usize = 39;
 
-pub const YES: usize = 38;
+pub const YES: usize = 40;
 
-pub const DONE: usize = 39;
+pub const DONE: usize = 41;
 
-pub const COUNTS: usize = 40;
+pub const COUNTS: usize = 42;
 
-pub const DEVIATION: usize = 41;
+pub const DEVIATION: usize = 43;
 
-pub const SLOT: usize = 42;
+pub const SLOT: usize = 44;
 
-pub const TOUCHED: usize = 43;
+pub const TOUCHED: usize = 45;
 
 // The byte of a form at a place, and a dot past its end.
 pub fn letter(form: usize, i: usize) -> u8

@@ -1,4 +1,4 @@
-//! The replies on numbers.
+//! The replies on numbers, and the number that bits are.
 use crate::forms::BITS;
 use crate::forms::BITS32;
 use crate::forms::OID;
@@ -11,7 +11,19 @@ use numbers::conversions::binary32_to_binary64;
 use numbers::conversions::binary64_to_binary32;
 ghost use mathlib.Core.Path.{_≡_};
 ghost use Prim.Native.Nat.{_-_};
+ghost use lib.Ieee.{binary64, ofBits};
 ghost use Rattle.replies.specs.Replies.{widenReply, narrowReply, oidReply};
+
+// The number that bits are. Those of a NaN, which are above the infinity's, are the language's one NaN.
+pub fn float_of(bits: u64) -> f64
+    ensures { λ r. ⌜ r ≡ ofBits binary64 bits ⌝ }
+{
+    if 0x7ff0_0000_0000_0000 < bits % 0x8000_0000_0000_0000 {
+        0.0 / 0.0
+    } else {
+        f64::from_bits(bits)
+    }
+}
 
 // The bits of a binary32 are the low half.
 pub fn widen(bits: u64) -> Reply

@@ -2,7 +2,7 @@
 -- Assumes nothing.
 use mathlib.Core.Path.{_≡_, refl}
 use mathlib.Core.List.{List, [], _∷_}
-use Prim.Native.Nat.{ℕ}
+use Prim.Native.Nat.{ℕ, _^_}
 use Rattle.text.specs.Numeral.{worth}
 use Rattle.text.specs.Text.{ascii}
 use Rattle.replies.specs.Forms.{forms}
@@ -13,14 +13,20 @@ use Rattle.requests.specs.Request.{unfilled, with, askedBy, requestOf, l
 abbrev mapped : List ℕ
 mapped = ascii "mapped 2 80FF"
 
-pub mapped-read : (requestOf mapped [] ≡ record { form = 3; size = 2; value = 0; given = 2; room = 0; rows = 0; slots = 0 })
+pub mapped-read : (requestOf mapped [] ≡ record { form = 3; size = 2; value = 0; second = 0; given = 2; room = 0; rows = 0; slots = 0 })
     × (lineLeft mapped [] ≡ 0x80 ∷ 0xff ∷ ascii "pped 2 80FF")
 unfolding worth forms most numberAt listOf wordsOf fieldAt lineAfter wordsAfter with askedBy
 mapped-read = (refl, refl)
 
+-- two numbers, the rooms and a byte string
+pub read-in : requestOf (ascii "read-in BFF0000000000000 4000000000000000 1 2 3 A1") []
+    ≡ record { form = 22; size = 0; value = 0xbff0000000000000; second = 2 ^ 62; given = 1; room = 3; rows = 1; slots = 2 }
+unfolding worth forms most numberAt listOf wordsOf fieldAt lineAfter wordsAfter with askedBy
+read-in = refl
+
 -- a word too many, a room that is larger than there is, and no byte string where one is asked for
 abbrev bad : List ℕ → Type 0
-bad line = requestOf line [] ≡ unfilled 21
+bad line = requestOf line [] ≡ unfilled 23
 
 pub refused-requests : bad (ascii "peek 01 ") × bad (ascii "map 2 600001 3FF0000000000000") × bad (ascii "peek ")
 unfolding worth forms most numberAt listOf wordsOf fieldAt lineAfter wordsAfter with askedBy

@@ -30,11 +30,11 @@ most letter =
     pick (eqb letter 0x44) rowsLent
     (pick (eqb letter 0x45 || eqb letter 0x46) slotsLent (pick (eqb letter 0x52) bytesLent (2 ^ 64 - 1)))
 
--- `W` is a binary32, `X` a binary64, any other capital up to `V` in decimal; a dot is the line's end, a comma nothing
+-- `W` is a binary32, `X` and `Y` binary64, any capital up to `V` in decimal; a dot is the line's end, a comma nothing
 unfoldable pub numberAt : ℕ → List ℕ → ℕ → Numeral
 numberAt letter line at =
     pick (eqb letter 0x57) (hexAt line at 8)
-    (pick (eqb letter 0x58) (hexAt line at 16)
+    (pick (eqb letter 0x58 || eqb letter 0x59) (hexAt line at 16)
     (pick (leb 0x41 letter && leb letter 0x56) (decimalUpTo (most letter) line at)
     (pick (eqb letter 0x2e) (endAt line at)
     (pick (eqb letter 0x2c) (Read 0 at) (literalAt letter line at)))))

@@ -31,7 +31,7 @@ fn number(letter: u8, line: &[u8], at: usize) -> Numeral
 {
     match letter {
         b'W' => hex(line, at, 8),
-        b'X' => hex(line, at, 16),
+        b'X' | b'Y' => hex(line, at, 16),
         b'A'..=b'V' => decimal_up_to(most(letter), line, at),
         b'.' => at_end(line, at),
         b',' => Numeral::Read { value: 0, next: at },

@@ -15,6 +15,8 @@ pub struct Request {
     pub size: u64,
     // W and X: the bits of a number; P: a payload; I: a row
     pub value: u64,
+    // Y: the bits of a second number
+    pub second: u64,
     // H: how many bytes are given; J: a column
     pub given: u64,
     // R and F: the room for bytes
@@ -32,6 +34,7 @@ fn unfilled(form: usize) -> Request
         form,
         size: 0,
         value: 0,
+        second: 0,
         given: 0,
         room: 0,
         rows: 0,
@@ -46,6 +49,7 @@ impl Request {
         match letter {
             b'N' => self.size = value,
             b'I' | b'P' | b'W' | b'X' => self.value = value,
+            b'Y' => self.second = value,
             b'H' | b'J' => self.given = value,
             b'F' | b'R' => self.room = value,
             b'D' | b'S' => self.rows = value,
