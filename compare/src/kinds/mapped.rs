@@ -25,17 +25,21 @@ const TAILS: [(u8, u8); 8] = [
 ];
 
 fn case(length: usize, bytes: &[u8]) -> Case {
-    let answer = match decode_imapb(&params(length), bytes) {
+    Case {
+        request: format!("mapped {length} {}", hex(bytes)),
+        answer: answer(decode_imapb(&params(length), bytes)),
+    }
+}
+
+pub(super) fn answer(decoded: Result<DecodedImapb, KlvFieldError>) -> String {
+    match decoded {
         Ok(decoded) => read(decoded),
         Err(KlvFieldError::UnsupportedImapbLength { length }) => format!("refused 4 {length}"),
+        Err(KlvFieldError::InvalidImapbParams { .. }) => "refused 9".to_string(),
         Err(KlvFieldError::InvalidLength { expected, got, .. }) => {
             format!("refused 2 {expected} {got}")
         }
         Err(error) => panic!("{error:?}"),
-    };
-    Case {
-        request: format!("mapped {length} {}", hex(bytes)),
-        answer,
     }
 }
 

@@ -1,11 +1,14 @@
 //! The kinds of request that are compared, a file for each.
 use crate::klv::imapb::ImapbParams;
 use crate::random::Random;
+pub use in_range::has_other_power;
 
 mod cell;
+mod in_range;
 mod lent;
 mod map;
 mod mapped;
+mod mapped_in;
 mod matrices;
 mod narrow;
 mod oid;
@@ -14,7 +17,9 @@ mod packs_at_limits;
 mod packs_at_random;
 mod peek;
 pub mod print;
+mod ranges;
 mod read;
+mod read_in;
 mod short;
 mod special;
 mod usable;
@@ -38,15 +43,17 @@ pub struct Kind {
     pub share: usize,
 }
 
-pub const KINDS: [Kind; 12] = [
+pub const KINDS: [Kind; 14] = [
     oid::KIND,
     widen::KIND,
     narrow::KIND,
     mapped::KIND,
+    mapped_in::KIND,
     map::KIND,
     special::KIND,
     peek::KIND,
     read::KIND,
+    read_in::KIND,
     write::KIND,
     cell::KIND,
     usable::KIND,
@@ -70,11 +77,14 @@ pub fn hex(bytes: &[u8]) -> String {
     bytes.iter().map(|byte| format!("{byte:02X}")).collect()
 }
 
-// The one range of the port.
+// The least number and the greatest.
+type Range = [f64; 2];
+
+fn within([min, max]: Range, length: usize) -> ImapbParams {
+    ImapbParams { min, max, length }
+}
+
+// The range of correlations.
 fn params(length: usize) -> ImapbParams {
-    ImapbParams {
-        min: -1.0,
-        max: 1.0,
-        length,
-    }
+    within([-1.0, 1.0], length)
 }

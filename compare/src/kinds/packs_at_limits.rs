@@ -1,7 +1,7 @@
 //! Byte strings that are the same at every run: all short ones, document 01's packs, and packs that end at and beside
 //! each element's end.
 use super::oid::spelled;
-use super::packs::{controls, pack, Control, LONGEST};
+use super::packs::{controls, pack, Control, Pack, LONGEST};
 use crate::random::Random;
 
 // First bytes that say something: a size, that more follows, or the most of either.
@@ -57,8 +57,7 @@ pub fn padded() -> Vec<Vec<u8>> {
 }
 
 // Whole, and one byte short of each element's end, at it and past it.
-fn cut_at_ends(random: &mut Random, n: u64, control: Control) -> Vec<Vec<u8>> {
-    let mut made = pack(random, n, 0, control);
+pub fn cut_at_ends(random: &mut Random, mut made: Pack) -> Vec<Vec<u8>> {
     made.bytes.extend([random.byte(), random.byte()]);
     let ends = made.ends.iter().flat_map(|&end| [end - 1, end, end + 1]);
     let mut lengths: Vec<usize> = ends.collect();
@@ -76,7 +75,8 @@ pub fn every_control() -> Vec<Vec<u8>> {
     for mut control in controls() {
         for n in [0, 1, 2, 4] {
             control.ignored = random.pick(&[[0x00, 0x00], [0xFF, 0xFF]]);
-            packs.extend(cut_at_ends(&mut random, n, control));
+            let made = pack(&mut random, n, 0, control);
+            packs.extend(cut_at_ends(&mut random, made));
         }
     }
     packs
@@ -123,8 +123,8 @@ pub fn of_sizes(seed: u64, sizes: &[u64]) -> Vec<Vec<u8>> {
     let mut packs = Vec::new();
     for &n in sizes {
         for ((cf, clen, slen), cs) in layouts.into_iter().flat_map(|of| [(of, false), (of, true)]) {
-            let control = Control::of(cs, cf, clen, slen);
-            packs.extend(cut_at_ends(&mut random, n, control));
+            let made = pack(&mut random, n, 0, Control::of(cs, cf, clen, slen));
+            packs.extend(cut_at_ends(&mut random, made));
         }
     }
     packs

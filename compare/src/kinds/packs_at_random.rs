@@ -3,7 +3,7 @@ use super::packs::{pack, Control, LONGEST};
 use crate::random::Random;
 
 // A length that can be read, mostly.
-fn length(random: &mut Random, mapped: bool) -> u8 {
+pub fn length(random: &mut Random, mapped: bool) -> u8 {
     match random.below(8) {
         0 => random.below(16) as u8,
         1 => 0,
@@ -12,7 +12,7 @@ fn length(random: &mut Random, mapped: bool) -> u8 {
     }
 }
 
-fn control(random: &mut Random) -> Control {
+pub fn control(random: &mut Random) -> Control {
     let mode2 = random.below(4) > 0;
     let mask = if mode2 { 15 } else { 7 };
     let cf = random.below(3) > 0;
@@ -28,7 +28,7 @@ fn control(random: &mut Random) -> Control {
 }
 
 // Mostly small, since all that a pack holds is printed.
-fn size(random: &mut Random) -> u64 {
+pub fn size(random: &mut Random) -> u64 {
     match random.below(2000) {
         0 => random.pick(&[255, 256]),
         1..=4 => random.pick(&[63, 64, 65]),
@@ -58,12 +58,17 @@ pub fn made(random: &mut Random) -> (Vec<u8>, u64) {
     let n = size(random);
     let padding = random.pick(&[0, 0, 0, 0, 0, 1, 2, 4]);
     let control = control(random);
-    let mut bytes = pack(random, n, padding, control).bytes;
+    let bytes = pack(random, n, padding, control).bytes;
+    (damaged(random, bytes), n)
+}
+
+// The bytes of a pack, as often as not damaged.
+pub fn damaged(random: &mut Random, mut bytes: Vec<u8>) -> Vec<u8> {
     for _ in 0..random.pick(&[0, 0, 0, 1, 1, 2]) {
         if !bytes.is_empty() {
             damage(random, &mut bytes);
         }
     }
     bytes.truncate(LONGEST);
-    (bytes, n)
+    bytes
 }

@@ -27,7 +27,16 @@ pub(super) const LARGEST: Rooms = [300, 33_000, 33_000];
 pub(super) const SMALL: Rooms = [9, 40, 40];
 
 pub(super) fn answer(rooms: Rooms, bytes: &[u8]) -> String {
-    match decode_sdcc_flp(bytes) {
+    answer_of(rooms, bytes, decode_sdcc_flp(bytes))
+}
+
+// That of a pack which was decoded so.
+pub(super) fn answer_of(
+    rooms: Rooms,
+    bytes: &[u8],
+    decoded: Result<SdccFlp, KlvFieldError>,
+) -> String {
+    match decoded {
         Ok(read) => no_room(&read, rooms).unwrap_or_else(|| lines(bytes, &read)),
         Err(error) => refused(error, bytes),
     }
@@ -126,17 +135,17 @@ pub fn rooms_around(needed: usize) -> Vec<usize> {
     rooms
 }
 
-// Every choice of rooms for a pack.
-fn in_every_room(n: u64, bytes: &[u8]) -> Vec<Case> {
-    let mut cases = Vec::new();
+// Every choice of rooms for a pack of this size.
+pub(super) fn every_room_of(n: u64) -> Vec<Rooms> {
+    let mut rooms = Vec::new();
     for deviations in rooms_around(n as usize) {
         for correlations in rooms_around(slots(n)) {
             for presence in rooms_around(slots(n)) {
-                cases.push(case([deviations, correlations, presence], bytes));
+                rooms.push([deviations, correlations, presence]);
             }
         }
     }
-    cases
+    rooms
 }
 
 // Small packs, with deviations and without.
@@ -146,7 +155,8 @@ fn every_room() -> Vec<Case> {
     for n in [0, 1, 2, 3, 4, 9] {
         for (cs, slen) in [(false, 4), (true, 4), (false, 0), (true, 0)] {
             let made = pack(&mut random, n, 0, Control::of(cs, true, 2, slen));
-            cases.extend(in_every_room(n, &made.bytes));
+            let rooms = every_room_of(n).into_iter();
+            cases.extend(rooms.map(|rooms| case(rooms, &made.bytes)));
         }
     }
     cases
@@ -170,17 +180,21 @@ fn limits() -> Vec<Case> {
     cases
 }
 
-fn random(random: &mut Random) -> Case {
-    let (bytes, n) = made(random);
+// Rooms for a pack that was made with this size.
+pub(super) fn rooms_at_random(random: &mut Random, n: u64) -> Rooms {
     if n > 256 {
-        return case(SMALL, &bytes);
+        return SMALL;
     }
     let needed = [n as usize, slots(n), slots(n)];
-    let rooms = match random.below(32) {
+    match random.below(32) {
         0 => LARGEST,
         1..=8 => needed.map(|needed| random.pick(&rooms_around(needed))),
         9..=16 => needed.map(|needed| needed + random.below(4) as usize),
         _ => needed,
-    };
-    case(rooms, &bytes)
+    }
+}
+
+fn random(random: &mut Random) -> Case {
+    let (bytes, n) = made(random);
+    case(rooms_at_random(random, n), &bytes)
 }

@@ -1,4 +1,6 @@
-//! The functions on floats that the modules call, which std has.
+//! The functions on floats that the modules call, which std has. Its `log2` and `powf` are those of the C library that
+//! the program is linked to, glibc's mostly, and not those of the crate `libm`: the last bit of `log2` may be another
+//! there.
 
 pub trait FloatExt {
     fn floor(self) -> Self;
