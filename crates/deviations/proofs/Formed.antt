@@ -15,15 +15,15 @@ use Rattle.answers.specs.Table.{Answer, wholes, pick, next}
 use Rattle.answers.specs.Listed.{listed}
 use Rattle.answers.proofs.Next.{IsRule, says-passes, says-refused, rules}
 use Rattle.answers.proofs.OneToOne.{done-not-refused}
-use Rattle.answers.proofs.Rules.{picked}
+use Rattle.answers.proofs.Rules.{picked, by-bool}
 use Rattle.numbers.specs.Words.{wordOf}
-use Rattle.imapb.specs.Tables.{Reading, reads, refused, supported}
+use Rattle.imapb.specs.Tables.{Reading, reads, refused, supported, lengthRule, codeRules, readUnless}
 use Rattle.imapb.specs.declared.decode.DecodedImapb.{DecodedImapb}
 use Rattle.imapb.specs.declared.decode.DecodedImapb.the-variants.{Value, Special, ReservedSpecial, OutOfRange}
 use Rattle.ranges.specs.Range.{goodRange, readingIn}
-use Rattle.ranges.specs.Tables.{lengthRule, sliceRule, readUnless, mappedReading, workedOut, workedRead}
+use Rattle.ranges.specs.Tables.{mappedReading, workedOut, workedRead}
 use Rattle.ranges.specs.declared.mapping.ImapbRange.the-variants.{Of, Refused}
-use Rattle.ranges.proofs.Reading.{by-bool, good-told, worked-out-is}
+use Rattle.ranges.proofs.Reading.{good-told, worked-out-is}
 use Rattle.layout.specs.declared.control.ParseControl.{ParseControl}
 use Rattle.elements.specs.Elements.{part}
 use Rattle.elements.specs.Numbers.{elementRule}
@@ -99,5 +99,5 @@ reading-says row rules d =
 pub form-says : (form : DeviationForm) (c : ParseControl) (row : ℕ) (raw : List ℕ) → IsRule (formFormat (formListed form) c row raw)
 form-says Plain c row raw = search rules
 form-says (Mapped (Of m)) c row raw =
-    reading-says row (next (lengthRule (m .length)) (sliceRule (m .length) raw)) (mappedReading m (wordOf raw))
+    reading-says row (codeRules (m .length) raw) (mappedReading m (wordOf raw))
 form-says (Mapped (Refused r)) c row raw = record { done = λ z. absurd (done-not-refused (listed r) r z refl) }

@@ -7,9 +7,9 @@ use Rattle.answers.specs.Lent.{tab}
 use Rattle.numbers.specs.Words.{wordOf}
 use Rattle.imapb.specs.declared.decode.DecodedImapb.{DecodedImapb}
 use Rattle.imapb.specs.declared.decode.DecodedImapb.the-variants.{Value, Special, ReservedSpecial, OutOfRange}
-use Rattle.imapb.specs.Tables.{supported}
+use Rattle.imapb.specs.Tables.{supported, lengthRule}
 use Rattle.ranges.specs.Range.{readingIn}
-use Rattle.ranges.specs.Tables.{rangeRule, lengthRule}
+use Rattle.ranges.specs.Tables.{rangeRule}
 use Rattle.layout.specs.declared.control.ParseControl.{ParseControl}
 use Rattle.elements.specs.declared.head.Head.{Head}
 use Rattle.elements.specs.Elements.{part, valueBits, deviationCount, deviationsAt, deviationIn}

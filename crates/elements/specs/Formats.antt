@@ -2,7 +2,7 @@
 use mathlib.Core.Bool.{not, _||_}
 use mathlib.Core.List.{[], _∷_}
 use Rattle.answers.specs.Table.{Answer, answer, wholes, pick, passes}
-use Rattle.imapb.specs.Tables.{supported}
+use Rattle.imapb.specs.Tables.{lengthRule}
 use Rattle.layout.specs.declared.control.ParseControl.{ParseControl}
 use Rattle.elements.specs.Elements.{isIeee}
 
@@ -13,5 +13,5 @@ deviationFormat c = pick (c .sf || not (isIeee (c .slen))) (answer 2 (wholes (0 
 -- Cf=1 and Clen 9 to 15 (or 0, where no slot is present): 4; Cf=0 and Clen not 4 or 8: 2 with 0, Clen
 abbrev pub codeFormat : ParseControl → Answer
 codeFormat c =
-    pick (c .cf) (pick (supported (c .clen)) passes (answer 4 (wholes (c .clen ∷ []))))
+    pick (c .cf) (lengthRule (c .clen))
     (pick (isIeee (c .clen)) passes (answer 2 (wholes (0 ∷ c .clen ∷ []))))

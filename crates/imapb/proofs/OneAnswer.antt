@@ -17,6 +17,8 @@ use Rattle.imapb.specs.Special.{specialCode}
 use Rattle.imapb.specs.Tables.{imapbListed}
 use Rattle.imapb.proofs.decode.decode_imapb.Reads as decode-imapb
 use Rattle.imapb.proofs.decode.unless_special.Reads as unless-special
+use Rattle.imapb.proofs.decode.check_length.Reads as check-length
+use Rattle.imapb.proofs.decode.check_code.Reads as check-code
 use Rattle.imapb.proofs.encode.check_range.Reads as check-range
 use Rattle.imapb.proofs.encode.imapb_code.Reads as imapb-code
 use Rattle.imapb.proofs.encode.encode_imapb.Reads as encode-imapb
@@ -35,6 +37,12 @@ decode-imapb-one κs a r r′ s s′ p q = read-one r r′ (p ∙ sym q)
 
 pub unless-special-one : OneResult unless-special.Learnt
 unless-special-one κs a r r′ s s′ p q = p ∙ sym q
+
+pub check-length-one : OneResult check-length.Learnt
+check-length-one κs a r r′ s s′ p q = checked-one r r′ (p ∙ sym q)
+
+pub check-code-one : OneResult check-code.Learnt
+check-code-one κs a r r′ s s′ p q = checked-one r r′ (p ∙ sym q)
 
 pub check-range-one : OneResult check-range.Learnt
 check-range-one κs a r r′ s s′ p q = checked-one r r′ (p ∙ sym q)

@@ -33,11 +33,23 @@ imapbListed (Refused r) = refused (listed r)
 abbrev pub supported : ℕ → Bool
 supported L = leb 1 L && leb L 8
 
+-- any other: 4 with it
+abbrev pub lengthRule : ℕ → Answer
+lengthRule L = pick (supported L) passes (answer 4 (wholes (L ∷ [])))
+
+-- a slice of another length: 2 with the length and the slice's
+abbrev pub sliceRule : ℕ → List ℕ → Answer
+sliceRule L bytes = pick (eqb (length bytes) L) passes (answer 2 (wholes (L ∷ length bytes ∷ [])))
+
+abbrev pub codeRules : ℕ → List ℕ → Answer
+codeRules L bytes = next (lengthRule L) (sliceRule L bytes)
+
+-- what a code reads as where no rule refuses it
+abbrev pub readUnless : Answer → DecodedImapb → Reading
+readUnless rules d = pick (eqb (rules .number) 0) (reads d) (refused rules)
+
 abbrev pub imapbRead : ℕ → List ℕ → Reading
-imapbRead L bytes =
-    pick (not (supported L)) (refused (answer 4 (wholes (L ∷ []))))
-    (pick (not (eqb (length bytes) L)) (refused (answer 2 (wholes (L ∷ length bytes ∷ []))))
-    (reads (reading L (wordOf bytes))))
+imapbRead L bytes = readUnless (codeRules L bytes) (reading L (wordOf bytes))
 
 -- v, by its bits, is NaN, infinite or outside -1 to 1: 3 with it, -1, 1
 abbrev pub rangeRule : ℕ → Answer
@@ -60,14 +72,14 @@ imapbMapping L = pick (supported L) (mapping.Of (mappingOf L)) mapping.Nothing
 
 abbrev pub imapbWritten : ℕ → ℕ → ℕ → Answer
 imapbWritten L v room =
-    pick (not (supported L)) (answer 4 (wholes (L ∷ [])))
+    next (lengthRule L)
     (pick (ltb room L) (answer 5 (wholes (L ∷ room ∷ [])))
     (next (rangeRule v)
     (answer 0 (wholes (L ∷ [])))))
 
 abbrev pub specialWritten : ℕ → ImapbSpecial → ℕ → Answer
 specialWritten L s room =
-    pick (not (supported L)) (answer 4 (wholes (L ∷ [])))
+    next (lengthRule L)
     (pick (ltb room L) (answer 5 (wholes (L ∷ room ∷ [])))
     (pick (leb (2 ^ (8 * L - 5)) (payload L s)) (answer 3 (wholes (payload L s ∷ 0 ∷ (2 ^ (8 * L - 5) - 1) ∷ [])))
     (answer 0 (wholes (L ∷ [])))))

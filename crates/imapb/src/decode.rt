@@ -1,12 +1,14 @@
 //! What a code of mapped form reads as.
 use crate::special::ImapbSpecial;
+use answers::Check;
 use answers::Refusal;
 ghost use mathlib.Core.Path.{_≡_};
 ghost use Prim.Native.Nat.{_≤_};
 ghost use Rattle.answers.specs.Table.{pick};
+ghost use Rattle.answers.specs.Listed.{checked};
 ghost use Rattle.imapb.specs.Mapping.{valueOf};
 ghost use Rattle.imapb.specs.Special.{overflowReading, specialReading, unlessSpecial, reading};
-ghost use Rattle.imapb.specs.Tables.{imapbListed, supported, imapbRead};
+ghost use Rattle.imapb.specs.Tables.{imapbListed, supported, lengthRule, codeRules, imapbRead};
 
 // Under the Rust's names: a value, a special, a pattern that the tables reserve with its y, or a number above the
 // range.
@@ -104,21 +106,42 @@ fn reading_of(length: usize, y: u64) -> DecodedImapb
     }
 }
 
+// A code has 1 to 8 bytes.
+pub fn check_length(length: usize) -> Check
+    ensures { λ r. ⌜ checked r ≡ lengthRule length ⌝ }
+{
+    if length < 1 {
+        return Check::Refused(Refusal::UnsupportedImapbLength { length });
+    }
+    if 8 < length {
+        return Check::Refused(Refusal::UnsupportedImapbLength { length });
+    }
+    Check::Passes
+}
+
+// And the slice that holds it has just as many.
+pub fn check_code(length: usize, bytes: &[u8]) -> Check
+    ensures { λ r. ⌜ checked r ≡ codeRules length (now (bytes .entry)) ⌝ }
+{
+    let supported = check_length(length);
+    let Check::Passes = supported else {
+        return supported;
+    };
+    if bytes.len() != length {
+        return Check::Refused(Refusal::InvalidLength {
+            expected: length,
+            got: bytes.len(),
+        });
+    }
+    Check::Passes
+}
+
 // What the code reads as.
 pub fn decode_imapb(length: usize, bytes: &[u8]) -> ImapbRead
     ensures { λ r. ⌜ imapbListed r ≡ imapbRead length (now (bytes .entry)) ⌝ }
 {
-    if length < 1 {
-        return ImapbRead::Refused(Refusal::UnsupportedImapbLength { length });
-    }
-    if 8 < length {
-        return ImapbRead::Refused(Refusal::UnsupportedImapbLength { length });
-    }
-    if bytes.len() != length {
-        return ImapbRead::Refused(Refusal::InvalidLength {
-            expected: length,
-            got: bytes.len(),
-        });
+    if let Check::Refused(refusal) = check_code(length, bytes) {
+        return ImapbRead::Refused(refusal);
     }
     ImapbRead::Done(reading_of(length, numbers::words::read_be(bytes)))
 }

@@ -33,7 +33,9 @@ use Rattle.ranges.proofs.Field.{few-units}
 use Rattle.ranges.proofs.Scaled.{below-power, int-upto, mul-value}
 use Rattle.ranges.proofs.Step.{same-rule, step-is}
 use Rattle.ranges.proofs.Number.{number-is}
-use Rattle.ranges.proofs.Reading.{by-bool, lengths, word-small}
+use Rattle.answers.proofs.Rules.{by-bool}
+use Rattle.imapb.proofs.Length.{lengths}
+use Rattle.ranges.proofs.Reading.{word-small}
 
 -- ---- the span is 2, and b is 1
 span-is : spanOf minusOne one ≡ power 1

@@ -1,24 +1,24 @@
 -- The reading of a code by what its range and its length decide is the definition's: a good range leaves nothing for its
 -- two other tests.
 -- Assumes nothing.
-use mathlib.Core.Path.{_≡_, refl, sym, ap}
-use mathlib.Core.Bool.{Bool, true, false}
+use mathlib.Core.Path.{_≡_, sym, ap}
+use mathlib.Core.Bool.{true}
 use mathlib.Core.List.{List, []}
 use Prim.Native.Nat.{ℕ, _≤_, _<_, _^_}
 use native.Mathlib.Nat.{mod-lt}
 use native.Mathlib.Omega.{arith}
-use lib.Dec.{T, leb, leb→le}
+use lib.Dec.{T}
 use lib.Pow.{pow-pos}
 use lib.Ieee.{Float}
-use lib.Ieee.Fits.{and-l, and-r}
 use Rattle.answers.specs.Table.{answer, passes}
-use Rattle.answers.proofs.Rules.{picked}
+use Rattle.answers.proofs.Rules.{picked, by-bool}
 use Rattle.numbers.specs.Words.{wordOf}
 use Rattle.imapb.specs.Special.{unlessSpecial}
-use Rattle.imapb.specs.Tables.{supported}
+use Rattle.imapb.specs.Tables.{supported, sliceRule, readUnless}
 use Rattle.imapb.specs.declared.decode.DecodedImapb.{DecodedImapb}
+use Rattle.imapb.proofs.Length.{lengths}
 use Rattle.ranges.specs.Range.{goodRange, readingIn}
-use Rattle.ranges.specs.Tables.{rangeRule, sliceRule, readUnless, mappedReading, mappingIn, workedOut, workedRead, imapbReadIn}
+use Rattle.ranges.specs.Tables.{rangeRule, mappedReading, mappingIn, workedOut, workedRead, imapbReadIn}
 use Rattle.ranges.proofs.Number.{number-is}
 
 pub word-small : (raw : List ℕ) → wordOf raw < 2 ^ 64
@@ -30,18 +30,9 @@ pub reading-is : (min max : Float) → T (goodRange min max) → (L : ℕ) → 1
 reading-is min max good L least most raw =
     ap (λ (d : DecodedImapb). unlessSpecial L (wordOf raw) d) (sym (number-is min max good L least most (wordOf raw) (word-small raw)))
 
--- ---- by cases of a test
-pub by-bool : {A : Type 0} (b : Bool) → (b ≡ true → A) → (b ≡ false → A) → A
-by-bool true p q = p refl
-by-bool false p q = q refl
-
 -- a range that is not refused is good
 pub good-told : (min max : Float) → rangeRule min max .number ≡ 0 → goodRange min max ≡ true
 good-told min max = picked (λ a. a .number ≡ 0 → goodRange min max ≡ true) (goodRange min max) passes (answer 9 []) (λ t _. t) (λ _ z. absurd (omega arith))
-
--- a length that is supported lies from 1 to 8
-pub lengths : (L : ℕ) → supported L ≡ true → (1 ≤ L) × (L ≤ 8)
-lengths L s = let t : T (supported L) = rw s tt in (leb→le 1 L (and-l (leb 1 L) (leb L 8) t), leb→le L 8 (and-r (leb 1 L) (leb L 8) t))
 
 -- the reading by what was worked out, refused or not, is the definition's
 pub worked-out-is : (min max : Float) (L : ℕ) (bytes : List ℕ) → workedRead (workedOut min max L) bytes ≡ imapbReadIn min max L bytes

@@ -1,6 +1,6 @@
 -- ST 1201.5's mapping over a range from min to max, for codes of L bytes: every step is imapb.rs's, with its one
 -- rounding. Only the exponent of the scale is document 02's, by the bits of the span and not by a logarithm.
-use Prim.Native.Nat.{ℕ, zero, suc, _+_, _-_, _*_}
+use Prim.Native.Nat.{ℕ, zero, suc, _+_, _*_}
 use mathlib.Core.Bool.{Bool, false, not, _&&_}
 use lib.Dec.{leb, ltb}
 use lib.IntN.{pos, negsuc}

@@ -1,13 +1,11 @@
 -- The answers over a range, in their order: 4 for a length that is not 1 to 8, 9 for a bad range, 2 for a slice of
--- another length.
+-- another length; 4 and 2 as `imapb` has them.
 use Prim.Native.Nat.{ℕ}
-use mathlib.Core.Bool.{Bool, not}
-use mathlib.Core.List.{List, [], _∷_}
-use lib.Dec.{leb, eqb}
+use mathlib.Core.List.{List, []}
+use lib.Dec.{leb}
 use lib.IntN.{pos}
-use lib.ListN.{length}
 use lib.Ieee.{Float, binary64, add, sub, mul, ofInt}
-use Rattle.answers.specs.Table.{Answer, answer, wholes, pick, passes, next}
+use Rattle.answers.specs.Table.{Answer, answer, pick, passes, next}
 use Rattle.answers.specs.Listed.{listed}
 use Rattle.answers.specs.Outcome.{Outcome, found, unless}
 use Rattle.answers.specs.Outcome as outcome
@@ -15,24 +13,14 @@ use Rattle.numbers.specs.Words.{wordOf}
 use Rattle.imapb.specs.declared.decode.DecodedImapb.{DecodedImapb}
 use Rattle.imapb.specs.declared.decode.DecodedImapb.the-variants.{Value, OutOfRange}
 use Rattle.imapb.specs.Special.{unlessSpecial}
-use Rattle.imapb.specs.Tables.{Reading, reads, refused, supported}
+use Rattle.imapb.specs.Tables.{Reading, refused, lengthRule, sliceRule, codeRules, readUnless}
 use Rattle.ranges.specs.declared.mapping.RangeMapping.{RangeMapping}
 use Rattle.ranges.specs.declared.mapping.ImapbRange.{ImapbRange}
 use Rattle.ranges.specs.declared.mapping.ImapbRange.the-variants.{Of, Refused}
 use Rattle.ranges.specs.Range.{goodRange, stepIn, offsetIn, topIn, readingIn}
 
-abbrev pub lengthRule : ℕ → Answer
-lengthRule L = pick (supported L) passes (answer 4 (wholes (L ∷ [])))
-
 abbrev pub rangeRule : Float → Float → Answer
 rangeRule min max = pick (goodRange min max) passes (answer 9 [])
-
-abbrev pub sliceRule : ℕ → List ℕ → Answer
-sliceRule L bytes = pick (eqb (length bytes) L) passes (answer 2 (wholes (L ∷ length bytes ∷ [])))
-
--- what a code reads as where no rule refuses it
-abbrev pub readUnless : Answer → DecodedImapb → Reading
-readUnless rules d = pick (eqb (rules .number) 0) (reads d) (refused rules)
 
 -- the definition of a code's reading over a range
 abbrev pub imapbReadIn : Float → Float → ℕ → List ℕ → Reading
@@ -64,7 +52,7 @@ mappedReading m y = unlessSpecial (m .length) y (mappedNumber m y)
 
 abbrev pub mappedRead : RangeMapping → List ℕ → Reading
 mappedRead m bytes =
-    readUnless (next (lengthRule (m .length)) (sliceRule (m .length) bytes)) (mappedReading m (wordOf bytes))
+    readUnless (codeRules (m .length) bytes) (mappedReading m (wordOf bytes))
 
 abbrev pub workedRead : Outcome RangeMapping → List ℕ → Reading
 workedRead (found m) bytes = mappedRead m bytes

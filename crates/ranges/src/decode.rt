@@ -3,9 +3,10 @@ use crate::mapping::ImapbRange;
 use crate::mapping::RangeMapping;
 use crate::mapping::range_mapping;
 use crate::range::ImapbParams;
-use answers::Refusal;
+use answers::Check;
 use imapb::decode::DecodedImapb;
 use imapb::decode::ImapbRead;
+use imapb::decode::check_code;
 use imapb::decode::unless_special;
 use numbers::words::read_be;
 use std::num::nearest_u64_to_f64;
@@ -29,21 +30,11 @@ fn number_of(mapping: RangeMapping, y: u64) -> DecodedImapb
 fn decode_mapped(mapping: RangeMapping, bytes: &[u8]) -> ImapbRead
     ensures { λ r. ⌜ imapbListed r ≡ mappedRead mapping (now (bytes .entry)) ⌝ }
 {
-    let length = mapping.length;
-    if length < 1 {
-        return ImapbRead::Refused(Refusal::UnsupportedImapbLength { length });
-    }
-    if 8 < length {
-        return ImapbRead::Refused(Refusal::UnsupportedImapbLength { length });
-    }
-    if bytes.len() != length {
-        return ImapbRead::Refused(Refusal::InvalidLength {
-            expected: length,
-            got: bytes.len(),
-        });
+    if let Check::Refused(refusal) = check_code(mapping.length, bytes) {
+        return ImapbRead::Refused(refusal);
     }
     let y = read_be(bytes);
-    ImapbRead::Done(unless_special(length, y, number_of(mapping, y)))
+    ImapbRead::Done(unless_special(mapping.length, y, number_of(mapping, y)))
 }
 
 // What the code reads as, over a range that has been worked out.

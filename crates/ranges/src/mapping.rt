@@ -5,6 +5,7 @@ use crate::range::check_range;
 use crate::range::scale_of;
 use answers::Check;
 use answers::Refusal;
+use imapb::decode::check_length;
 use std::num::truncating_f64_to_u64;
 ghost use mathlib.Core.Path.{_≡_};
 ghost use Prim.Native.Nat.{_≤_};
@@ -60,12 +61,8 @@ fn mapping_of(params: ImapbParams) -> RangeMapping
 pub fn range_mapping(params: ImapbParams) -> ImapbRange
     ensures { λ r. ⌜ rangeListed r ≡ workedOut (params .min) (params .max) (params .length) ⌝ }
 {
-    let length = params.length;
-    if length < 1 {
-        return ImapbRange::Refused(Refusal::UnsupportedImapbLength { length });
-    }
-    if 8 < length {
-        return ImapbRange::Refused(Refusal::UnsupportedImapbLength { length });
+    if let Check::Refused(refusal) = check_length(params.length) {
+        return ImapbRange::Refused(refusal);
     }
     if let Check::Refused(refusal) = check_range(params.min, params.max) {
         return ImapbRange::Refused(refusal);

@@ -10,9 +10,8 @@ use Rattle.answers.proofs.InTable.{in-done, in-1, in-8, in-pick, in-next, table
 use Rattle.numbers.specs.Words.{wordOf}
 use Rattle.imapb.specs.declared.decode.DecodedImapb.{DecodedImapb}
 use Rattle.imapb.specs.declared.decode.DecodedImapb.the-variants.{Value, Special, ReservedSpecial, OutOfRange}
-use Rattle.imapb.specs.Tables.{rangeRule, supported}
+use Rattle.imapb.specs.Tables.{rangeRule, supported, lengthRule}
 use Rattle.ranges.specs.Range.{readingIn}
-use Rattle.ranges.specs.Tables.{lengthRule}
 use Rattle.layout.specs.declared.control.ParseControl.{ParseControl}
 use Rattle.layout.specs.declared.header.Header.{Header}
 use Rattle.layout.specs.declared.header.Header.the-variants.{Open, Unreadable, Short}
@@ -167,7 +166,7 @@ answered =
       checks = range-in;
       lengths = lengths-in;
       ranges = λ min max. lent-in (Known min max);
-      slices = λ L bytes. search table depth 10;
+      codes = λ L bytes. search table depth 10;
       maps-special = λ L s room. search table depth 10;
       looks-up = λ p ds cs i j. search table depth 10;
       prints = λ bytes room. search table depth 10;

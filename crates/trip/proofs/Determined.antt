@@ -41,9 +41,11 @@ use Rattle.numbers.proofs.conversions.nearest_binary64.Reads as nearest-binary6
 use Rattle.numbers.proofs.conversions.binary64_to_binary32.Reads as binary64-to-binary32
 use Rattle.numbers.proofs.conversions.binary32_to_binary64.Reads as binary32-to-binary64
 use Rattle.numbers.proofs.conversions.whole_part.Reads as whole-part
-use Rattle.imapb.proofs.OneAnswer.{decode-imapb-one, unless-special-one, check-range-one, imapb-code-one, imapb-mapping-one, encode-imapb-one, encode-imapb-special-one}
+use Rattle.imapb.proofs.OneAnswer.{decode-imapb-one, unless-special-one, check-length-one, check-code-one, check-range-one, imapb-code-one, imapb-mapping-one, encode-imapb-one, encode-imapb-special-one}
 use Rattle.imapb.proofs.decode.decode_imapb.Reads as decode-imapb
 use Rattle.imapb.proofs.decode.unless_special.Reads as unless-special
+use Rattle.imapb.proofs.decode.check_length.Reads as check-length
+use Rattle.imapb.proofs.decode.check_code.Reads as check-code
 use Rattle.imapb.proofs.encode.check_range.Reads as check-range
 use Rattle.imapb.proofs.encode.imapb_code.Reads as imapb-code
 use Rattle.imapb.proofs.mapping.imapb_mapping.Reads as imapb-mapping
@@ -174,6 +176,8 @@ pub record Determined : Type 0 where
   -- mapped values and special codes
   pub decode-imapb-determined : OneResult decode-imapb.Learnt
   pub unless-special-determined : OneResult unless-special.Learnt
+  pub check-length-determined : OneResult check-length.Learnt
+  pub check-code-determined : OneResult check-code.Learnt
   pub check-range-determined : OneResult check-range.Learnt
   pub imapb-code-determined : OneResult imapb-code.Learnt
   pub imapb-mapping-determined : OneResult imapb-mapping.Learnt
@@ -297,6 +301,8 @@ determined =
       whole-part-determined = whole-part-one;
       decode-imapb-determined = decode-imapb-one;
       unless-special-determined = unless-special-one;
+      check-length-determined = check-length-one;
+      check-code-determined = check-code-one;
       check-range-determined = check-range-one;
       imapb-code-determined = imapb-code-one;
       imapb-mapping-determined = imapb-mapping-one;

@@ -3,9 +3,8 @@ use mathlib.Core.List.{List}
 use Prim.Native.Nat.{ℕ}
 use lib.Ieee.{Float}
 use Rattle.answers.specs.Listed.{InTable}
-use Rattle.imapb.specs.Tables.{rangeRule, imapbWritten, specialWritten}
+use Rattle.imapb.specs.Tables.{lengthRule, codeRules, rangeRule, imapbWritten, specialWritten}
 use Rattle.imapb.specs.declared.special.ImapbSpecial.{ImapbSpecial}
-use Rattle.ranges.specs.Tables.{lengthRule, sliceRule}
 use Rattle.ranges.specs.Tables as ranges
 use Rattle.layout.specs.declared.control.ParseControl.{ParseControl}
 use Rattle.layout.specs.Header.{headRules}
@@ -43,7 +42,7 @@ pub record Answered : Type 0 where
   pub checks : (v : ℕ) → InTable (rangeRule v)
   pub lengths : (L : ℕ) → InTable (lengthRule L)
   pub ranges : (min max : Float) → InTable (ranges.rangeRule min max)
-  pub slices : (L : ℕ) (bytes : List ℕ) → InTable (sliceRule L bytes)
+  pub codes : (L : ℕ) (bytes : List ℕ) → InTable (codeRules L bytes)
   pub maps-special : (L : ℕ) (s : ImapbSpecial) (room : ℕ) → InTable (specialWritten L s room)
   -- cell lookup
   pub looks-up : (p : SdccFlp) (ds cs : List ℕ) (i j : ℕ) → InTable (cellAnswer p ds cs i j)

@@ -1,6 +1,6 @@
 -- `number::correlation_at` meets its contract.
 -- Assumes nothing.
-use mathlib.Core.Bool.{Bool, true, false, not}
+use mathlib.Core.Bool.{Bool, true, false}
 use mathlib.Core.List.{List, [], _∷_}
 use mathlib.Core.Path.{_≡_, refl, ap, _∙_}
 use Prim.Native.Nat.{ℕ, _-_, _≤_}
@@ -10,14 +10,13 @@ use borrow.Author.Needs.{needs}
 use borrow.Author.Tests.{lt-ltb, le-ltb, eq-eqb, not-true, not-false}
 use lib.Dec.{eqb}
 use lib.ListN.{length, length-take, length-drop}
-use Rattle.answers.specs.Table.{Answer, answer, wholes, pick, passes}
+use Rattle.answers.specs.Table.{Answer, answer, wholes, pick, passes, next}
 use Rattle.elements.proofs.number.correlation_at.Statement.{statement}
 use Rattle.elements.proofs.number.correlation_at.Tie as tie
 use Rattle.elements.specs.Elements.{part, valueBits}
 use Rattle.elements.specs.Numbers.{bits, refused, codeNumber, correlationNumber}
 use Rattle.imapb.proofs.Length.{too-short}
-use Rattle.imapb.specs.Tables as imapb
-use Rattle.imapb.specs.Tables.{reads, imapbRead, supported}
+use Rattle.imapb.specs.Tables.{readUnless, imapbRead, supported}
 use Rattle.imapb.specs.declared.decode.DecodedImapb.{DecodedImapb}
 use Rattle.layout.specs.declared.control.ParseControl.{ParseControl}
 
@@ -31,7 +30,7 @@ mapped bytes at c m h =
     no : Answer
     no = answer 4 (wholes (c .clen ∷ []))
 
-    go : (s : Bool) (d : DecodedImapb) → codeNumber (pick (not s) (imapb.refused no) (reads d)) ≡ pick (eqb (pick s passes no .number) 0) (bits (valueBits d)) (refused (pick s passes no))
+    go : (s : Bool) (d : DecodedImapb) → codeNumber (readUnless (next (pick s passes no) passes) d) ≡ pick (eqb (pick s passes no .number) 0) (bits (valueBits d)) (refused (pick s passes no))
     go true d = refl
     go false d = refl
 

@@ -1,47 +1,57 @@
 -- `decode::decode_imapb` meets its contract.
 -- Assumes nothing.
-use mathlib.Core.Path.{ap, _∙_}
+use mathlib.Core.Path.{_≡_, ap, _∙_}
 use Prim.Native.Nat.{ℕ}
-use native.Mathlib.Omega.{arith}
 use borrow.Author.Needs.{needs}
-use borrow.Author.Tests.{eq-eqb, ne-eqb}
-use lib.ListN.{length}
+use Rattle.answers.specs.Table.{passes}
+use Rattle.numbers.specs.Words.{wordOf}
 use Rattle.imapb.specs.Special.{reading}
-use Rattle.imapb.specs.Tables.{reads}
-use Rattle.imapb.proofs.Length.{too-short, too-long, is-supported}
+use Rattle.imapb.specs.Tables.{reads, codeRules}
+use Rattle.imapb.proofs.Length.{lengths, read-refused, read-passed, code-length}
 use Rattle.imapb.proofs.decode.decode_imapb.Statement.{statement}
 use Rattle.imapb.proofs.decode.decode_imapb.Tie as tie
 
+check-code-requires : tie.Need-check-code-requires
+check-code-requires c κs = search needs
+
+enum-known-refusal : tie.Need-enum-known-refusal
+enum-known-refusal c = search needs
+
 returns : tie.Need-returns
-returns c = rw (too-short (c .before .before .args .length) (c .if1 .taken))
+returns c =
+    let e = c .before .refusal .given in
+    let k = c .before .before .before in
+    let a = k .before .before .args in
+    read-refused (reading (a .length) (wordOf (a .bytes .now))) (e .0 .0) (rw (e .1) at (k .check-code .ensures))
 
-returns-2 : tie.Need-returns-2
-returns-2 c = rw (too-long (c .before .before .before .args .length) (c .if2 .taken))
-
-returns-3 : tie.Need-returns-3
-returns-3 c =
-    let a = c .before .before .before .before .args in
-    rw (is-supported (a .length) (omega arith) (omega arith), ne-eqb (length (a .bytes .now)) (a .length) (c .if3 .taken))
+enum-told : tie.Need-enum-told
+enum-told c = search needs
 
 read-be-requires : tie.Need-read-be-requires
 read-be-requires c κs = search needs
 
-reading-of-requires : tie.Need-reading-of-requires
-reading-of-requires c κs = search needs
+-- no rule refused the code
+passed : (c : tie.After-enum-told) → let a = c .before .before .before .before .args in passes ≡ codeRules (a .length) (a .bytes .now)
+passed c = rw (c .enum-told .given .1) at (c .before .before .check-code .ensures)
 
-returns-4 : tie.Need-returns-4
-returns-4 c =
+reading-of-requires : tie.Need-reading-of-requires
+reading-of-requires c κs =
+    let a = c .before .before .before .before .before .args in
+    lengths (a .length) (code-length (a .length) (a .bytes .now) (passed (c .before)))
+
+returns-2 : tie.Need-returns-2
+returns-2 c =
     let a = c .before .before .before .before .before .before .args in
-    rw (is-supported (a .length) (omega arith) (omega arith), eq-eqb (length (a .bytes .now)) (a .length) (c .before .before .if3 .left))
-    (ap reads (c .reading-of .ensures ∙ ap (λ (y : ℕ). reading (a .length) y) (c .before .read-be .ensures)))
+    ap reads (c .reading-of .ensures ∙ ap (λ (y : ℕ). reading (a .length) y) (c .before .read-be .ensures)) ∙ read-passed (reading (a .length) (wordOf (a .bytes .now))) (passed (c .before .before))
 
 pub decode-imapb-spec : {M : Type 1} → statement M
 decode-imapb-spec =
     tie.close
     (tie.spec
+    check-code-requires
+    enum-known-refusal
     returns
-    returns-2
-    returns-3
+    enum-told
     read-be-requires
     reading-of-requires
-    returns-4)
+    returns-2)
