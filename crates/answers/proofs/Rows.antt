@@ -1,7 +1,6 @@
 -- A refusal's row lists as the refusal does, and holds three values.
 -- Assumes nothing.
-use mathlib.Core.Path.{_≡_, refl}
-use lib.ListN.{length}
+use mathlib.Core.Path.{_≡_}
 use Rattle.answers.specs.declared.Refusal.{Refusal}
 use Rattle.answers.specs.Listed.{listed}
 use Rattle.answers.specs.Row.{rowOf, listedRow}

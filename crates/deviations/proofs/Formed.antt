@@ -11,7 +11,7 @@ use borrow.Author.Tests.{eq-eqb, lt-ltb, eqb-false}
 use lib.Dec.{eqb}
 use lib.Ieee.{Float}
 use lib.ListN.{length, length-take, length-drop}
-use Rattle.answers.specs.Table.{Answer, wholes, pick, next}
+use Rattle.answers.specs.Table.{Answer, wholes, pick}
 use Rattle.answers.specs.Listed.{listed}
 use Rattle.answers.proofs.Next.{IsRule, says-passes, says-refused, rules}
 use Rattle.answers.proofs.OneToOne.{done-not-refused}
@@ -29,7 +29,7 @@ use Rattle.elements.specs.Elements.{part}
 use Rattle.elements.specs.Numbers.{elementRule}
 use Rattle.deviations.specs.declared.form.DeviationRange.{DeviationRange}
 use Rattle.deviations.specs.declared.form.DeviationRange.the-variants.{Unknown, Known}
-use Rattle.deviations.specs.Range.{lentRule, valueRule, formatOver, deviationOver}
+use Rattle.deviations.specs.Range.{lentRule, valueRule, formatOver, rowPart, deviationOver}
 use Rattle.deviations.specs.declared.form.DeviationForm.{DeviationForm}
 use Rattle.deviations.specs.declared.form.DeviationForm.the-variants.{Plain, Mapped}
 use Rattle.deviations.specs.Form.{formListed, formOf, formFormat, formBits, readingRule}
@@ -74,13 +74,13 @@ module _ (bytes : List ℕ) (at : ℕ) (c : ParseControl) (row : ℕ) where
 
 -- and its number, where it is not refused: row i of those that start at `at`
 pub form-bits : (bytes : List ℕ) (at : ℕ) (c : ParseControl) (i : ℕ) (range : DeviationRange) → lentRule range .number ≡ 0
-    → c .slen ≤ length bytes - (at + i * c .slen) → formFormat (formOf range c) c i (part bytes (at + i * c .slen) (c .slen)) .number ≡ 0
-    → formBits (formOf range c) c (part bytes (at + i * c .slen) (c .slen)) ≡ deviationOver range bytes at c i
+    → c .slen ≤ length bytes - (at + i * c .slen) → formFormat (formOf range c) c i (rowPart bytes at c i) .number ≡ 0
+    → formBits (formOf range c) c (rowPart bytes at c i) ≡ deviationOver range bytes at c i
 form-bits bytes at c i Unknown z there e = refl
 form-bits bytes at c i (Known min max) z there e =
     by-bool (c .sf)
     (λ t. by-bool (supported (c .slen))
-    (λ s. rw (t, worked-is min max (c .slen) (good-told min max z) s (part bytes (at + i * c .slen) (c .slen)) (part-whole bytes (at + i * c .slen) (c .slen) there)))
+    (λ s. rw (t, worked-is min max (c .slen) (good-told min max z) s (rowPart bytes at c i) (part-whole bytes (at + i * c .slen) (c .slen) there)))
     (λ s. absurd (let n : _≡_ {A = ℕ} 4 0 = rw (t, s) at e in omega arith)))
     (λ f. rw f)
 

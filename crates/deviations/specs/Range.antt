@@ -38,11 +38,15 @@ formatOver (Known min max) c row raw =
     (pick (supported (c .slen)) (valueRule row (readingIn min max (c .slen) (wordOf raw))) (lengthRule (c .slen)))
     (deviationFormat c)
 
+-- the bytes of row i of deviations that start at `at`
+abbrev pub rowPart : List ℕ → ℕ → ParseControl → ℕ → List ℕ
+rowPart bytes at c i = part bytes (at + i * c .slen) (c .slen)
+
 -- deviation i of those that start at `at`: with a range and Sf=1 what its code reads as
 abbrev pub deviationOver : DeviationRange → List ℕ → ℕ → ParseControl → ℕ → ℕ
 deviationOver Unknown bytes at c i = deviationIn bytes at c i
 deviationOver (Known min max) bytes at c i =
-    pick (c .sf) (valueBits (readingIn min max (c .slen) (wordOf (part bytes (at + i * c .slen) (c .slen)))))
+    pick (c .sf) (valueBits (readingIn min max (c .slen) (wordOf (rowPart bytes at c i))))
     (deviationIn bytes at c i)
 
 abbrev pub deviationsOver : DeviationRange → List ℕ → Head → List ℕ

@@ -1,10 +1,10 @@
 -- The loops that fill lent memory: what a turn reads is there, so that no number is refused.
 -- Assumes nothing.
-use mathlib.Core.Path.{_≡_, refl, sym, ap, _∙_}
+use mathlib.Core.Path.{_≡_, refl, ap}
 use mathlib.Core.Bool.{Bool, true, false}
 use mathlib.Core.List.{List}
-use Prim.Native.Nat.{ℕ, zero, suc, _+_, _-_, _*_, _≤_, _<_}
-use native.Mathlib.Nat.{add-zero, zero-mul, suc-mul, add-mul, mul-comm, mul-le-mul-right}
+use Prim.Native.Nat.{ℕ, _+_, _-_, _*_, _≤_, _<_}
+use native.Mathlib.Nat.{zero-mul, suc-mul, add-mul, mul-comm, mul-le-mul-right}
 use native.Mathlib.Numerals.{add-one}
 use native.Mathlib.Omega.{arith}
 use borrow.Author.Tests.{le-ltb}
@@ -18,8 +18,9 @@ use Rattle.elements.specs.Elements.{part, codeBits, presentIn, presentBefore, c
 use Rattle.elements.specs.Held.{SlotsHeld}
 use Rattle.elements.specs.Numbers.{Read, bits, numberListed, element, slotNumber}
 use Rattle.elements.specs.Formats.{codeFormat}
+use Rattle.deviations.specs.Range.{rowPart}
 use Rattle.deviations.specs.Form.{Form, formFormat, formNumber}
-use Rattle.reader.specs.Rows.{RowsHeld, rowPart, formIn}
+use Rattle.reader.specs.Rows.{RowsHeld, formIn}
 use Rattle.elements.proofs.Vector.{present-more, present-le, present-grows}
 
 -- ---- what a turn has: the number that it reads, and where it moves on to
@@ -53,7 +54,7 @@ module _ (bytes : List ℕ) (at : ℕ) (c : ParseControl) (f : Form) where
       let w : at + i * c .slen + c .slen ≤ length bytes = omega (arith, h .whole, ends at (c .slen) l) in
       rw (e, add-one)
       (record {
-        read = element-held bytes (at + i * c .slen) (c .slen) (formFormat f c i (rowPart bytes at c f i)) (formIn bytes at c f i) w (h .each i l);
+        read = element-held bytes (at + i * c .slen) (c .slen) (formFormat f c i (rowPart bytes at c i)) (formIn bytes at c f i) w (h .each i l);
         on = omega (arith, suc-mul i (c .slen));
         within = w;
       })

@@ -1,9 +1,9 @@
 -- The reader's whole order: what each refusal comes to, and what is left in lent memory.
 -- Assumes nothing.
-use mathlib.Core.Path.{_≡_, refl, sym, ap, _∙_}
+use mathlib.Core.Path.{_≡_, sym, ap, _∙_}
 use mathlib.Core.Bool.{true}
 use mathlib.Core.List.{List}
-use Prim.Native.Nat.{ℕ, _+_, _*_, _/_, _≤_, _<_}
+use Prim.Native.Nat.{ℕ, _+_, _/_, _≤_}
 use native.Mathlib.Omega.{arith}
 use lib.ListN.{length}
 use Rattle.answers.specs.Lent.{over, tab, leaves}
@@ -20,7 +20,7 @@ use Rattle.layout.specs.Triangle.{slotsOf}
 use Rattle.layout.specs.declared.pack.SdccFlp.{SdccFlp}
 use Rattle.elements.specs.declared.head.Head.{Head}
 use Rattle.elements.specs.declared.head.Places.{Places}
-use Rattle.elements.specs.Elements.{headOf, placesOf, deviationsAt, deviationCount, codesAt}
+use Rattle.elements.specs.Elements.{headOf, placesOf, deviationsAt, deviationCount}
 use Rattle.elements.specs.Elements.{correlationIn, presenceIn, correlations, presence}
 use Rattle.elements.specs.Held.{Within, SlotsHeld}
 use Rattle.elements.specs.Listed.{packOf}

@@ -19,7 +19,7 @@ use Rattle.rules.specs.Turns.{turnsRule}
 use Rattle.elements.specs.Numbers.{correlationNumber}
 use Rattle.elements.specs.Formats.{deviationFormat, codeFormat}
 use Rattle.deviations.specs.declared.form.DeviationRange.{DeviationRange}
-use Rattle.deviations.specs.Range.{lentRule, formatOver}
+use Rattle.deviations.specs.Range.{lentRule, formatOver, rowPart}
 use Rattle.deviations.specs.Form.{plain, formOf, formNumber}
 use Rattle.deviations.proofs.Formed.{form-rule}
 use Rattle.rules.specs.Decided.{formRule}
@@ -54,7 +54,7 @@ code-format c =
 -- rule h) by the form that is worked out of a range and a control
 pub by-form : (range : DeviationRange) (bytes : List ℕ) (at : ℕ) (c : ParseControl) → lentRule range .number ≡ 0 → (n : ℕ)
     → formRule bytes at c (formOf range c) n
-    ≡ inTurn bytes at (c .slen) (λ i. formatOver range c i (part bytes (at + i * c .slen) (c .slen))) n
+    ≡ inTurn bytes at (c .slen) (λ i. formatOver range c i (rowPart bytes at c i)) n
 by-form range bytes at c z zero = refl
 by-form range bytes at c z (suc n) = rw (by-form range bytes at c z n, form-rule bytes (at + n * c .slen) c n range z)
 

@@ -17,12 +17,12 @@ use Rattle.layout.specs.Size.{maxRows, maxSlots}
 use Rattle.layout.specs.Triangle.{slotsOf}
 use Rattle.layout.proofs.RowByRow.{few-slots}
 use Rattle.elements.specs.declared.head.Head.{Head}
-use Rattle.elements.specs.Elements.{part, deviationsAt, deviationCount, codesAt, presentCount}
+use Rattle.elements.specs.Elements.{deviationsAt, deviationCount, codesAt, presentCount}
 use Rattle.elements.specs.Formats.{codeFormat}
 use Rattle.elements.specs.Numbers.{elementRule}
 use Rattle.elements.specs.Held.{SlotsHeld, Within}
 use Rattle.deviations.specs.declared.form.DeviationRange.{DeviationRange}
-use Rattle.deviations.specs.Range.{lentRule}
+use Rattle.deviations.specs.Range.{lentRule, rowPart}
 use Rattle.deviations.specs.Form.{Form, formOf, formFormat}
 use Rattle.rules.specs.Rules.{inTurn, ruleH, ruleI, ruleJ, ruleK, codeRules, elementRules, roomRules}
 use Rattle.rules.proofs.InTurn.{Format}
@@ -75,7 +75,7 @@ module _ (bytes : List ℕ) (at size : ℕ) (format : ℕ → Answer) where
 pub record Held (bytes : List ℕ) (h : Head) (f : Form) : Type 0 where
   pub deviations : deviationsAt h + deviationCount h * h .control .slen ≤ length bytes
   pub each : (i : ℕ) → i < deviationCount h
-      → formFormat f (h .control) i (part bytes (deviationsAt h + i * h .control .slen) (h .control .slen)) .number ≡ 0
+      → formFormat f (h .control) i (rowPart bytes (deviationsAt h) (h .control) i) .number ≡ 0
   pub slots : SlotsHeld bytes (h .body) (codesAt h) (h .control) (slotsOf (h .n))
 
 pub held : (range : DeviationRange) (bytes : List ℕ) (h : Head) → lentRule range .number ≡ 0 → Within bytes h
@@ -86,7 +86,7 @@ held range bytes h z w e =
     let b = next-zero (ruleI bytes h) (next (ruleJ bytes h) (ruleK bytes h)) (a .1) in
     let j = next-zero (ruleJ bytes h) (ruleK bytes h) (b .1) in
     let ds =
-    turns-held bytes (deviationsAt h) (k .slen) (λ i. formFormat (formOf range k) k i (part bytes (deviationsAt h + i * k .slen) (k .slen))) (deviationCount h) (w .vector)
+    turns-held bytes (deviationsAt h) (k .slen) (λ i. formFormat (formOf range k) k i (rowPart bytes (deviationsAt h) k i)) (deviationCount h) (w .vector)
     (rw (by-form range bytes (deviationsAt h) k z (deviationCount h)) (a .0)) in
     let l : codesAt h ≤ length bytes = omega (arith, ds .0, count-bytes h) in
     let cs = turns-held bytes (codesAt h) (k .clen) (λ _. codeFormat k) (presentCount bytes h) l (j .0) in

@@ -19,6 +19,7 @@ use Rattle.elements.specs.Numbers.{Read, bits, refused, numberListed, elementRu
 use Rattle.elements.specs.declared.number.Number.{Number}
 use Rattle.elements.specs.declared.number.Number.the-variants.{Bits, Refused}
 use Rattle.deviations.specs.declared.form.DeviationForm.{DeviationForm}
+use Rattle.deviations.specs.Range.{rowPart}
 use Rattle.deviations.specs.Form.{formListed, formFormat, formNumber}
 use Rattle.deviations.proofs.Formed.{form-says}
 use Rattle.rules.specs.Decided.{formRule}
@@ -62,4 +63,4 @@ module _ (bytes : List ℕ) (at : ℕ) (c : ParseControl) (form : DeviationForm)
     pub row-stops : {x : Refusal} → r ≡ Refused x → (n : ℕ) → row < n → listed x ≡ formRule bytes at c (formListed form) n
     row-stops {x} h n l =
         let k : formRule bytes at c (formListed form) (suc row) ≡ listed x = up-to ∙ refusal-tells rowRule _ (rw h at e) in
-        sym (turns-stop bytes at (c .slen) (λ i. formFormat (formListed form) c i (part bytes (at + i * c .slen) (c .slen))) row n l (rw (k, refused-not-done x)) ∙ k)
+        sym (turns-stop bytes at (c .slen) (λ i. formFormat (formListed form) c i (rowPart bytes at c i)) row n l (rw (k, refused-not-done x)) ∙ k)

@@ -1,6 +1,6 @@
 -- The range that is lent, and rules a) to k), in their order: the first that refuses decides.
 -- Assumes nothing.
-use mathlib.Core.Path.{_≡_, refl, sym, ap, _∙_}
+use mathlib.Core.Path.{_≡_, sym, ap, _∙_}
 use mathlib.Core.List.{List}
 use Prim.Native.Nat.{ℕ}
 use Rattle.answers.specs.Listed.{listed}
@@ -11,7 +11,6 @@ use Rattle.answers.proofs.Next.{next-passed}
 use Rattle.answers.proofs.OneToOne.{refused-not-done}
 use Rattle.answers.proofs.Outcome.{found-tells, refused-tells, found-where, refused-where}
 use Rattle.layout.specs.Size.{fitRules}
-use Rattle.layout.proofs.Peek.{fit-rule}
 use Rattle.elements.specs.declared.head.Places.{Places}
 use Rattle.elements.specs.Elements.{headOf, placesOf, deviationCount}
 use Rattle.elements.specs.Listed.{verdict}

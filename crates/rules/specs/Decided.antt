@@ -1,5 +1,5 @@
 -- What the rules decide of a pack: where its elements start, and how its deviations are read.
-use Prim.Native.Nat.{ℕ, _+_, _*_}
+use Prim.Native.Nat.{ℕ}
 use mathlib.Core.List.{List}
 use Rattle.answers.specs.Listed.{listed}
 use Rattle.answers.specs.Outcome.{Outcome, found, refused, unless}
@@ -7,8 +7,9 @@ use Rattle.answers.specs.Table.{Answer}
 use Rattle.layout.specs.Header.{controlOf}
 use Rattle.layout.specs.declared.control.ParseControl.{ParseControl}
 use Rattle.elements.specs.declared.head.Places.{Places}
-use Rattle.elements.specs.Elements.{headOf, placesOf, part}
+use Rattle.elements.specs.Elements.{headOf, placesOf}
 use Rattle.deviations.specs.declared.form.DeviationRange.{DeviationRange}
+use Rattle.deviations.specs.Range.{rowPart}
 use Rattle.deviations.specs.Form.{Form, formListed, formOf, formFormat}
 use Rattle.rules.specs.declared.decide.Decided.{Decided}
 use Rattle.rules.specs.declared.decide.Decided.the-variants.{Pack, Refused}
@@ -33,5 +34,4 @@ decided range bytes = unless (packRules range bytes) (readyOf range bytes)
 
 -- rule h), by the form that the deviations are read in
 abbrev pub formRule : List ℕ → ℕ → ParseControl → Form → ℕ → Answer
-formRule bytes at c f count =
-    inTurn bytes at (c .slen) (λ i. formFormat f c i (part bytes (at + i * c .slen) (c .slen))) count
+formRule bytes at c f count = inTurn bytes at (c .slen) (λ i. formFormat f c i (rowPart bytes at c i)) count

@@ -10,11 +10,11 @@ use Rattle.layout.specs.declared.control.ParseControl.{ParseControl}
 use Rattle.layout.specs.Size.{fitRules}
 use Rattle.layout.specs.Triangle.{slotsOf}
 use Rattle.elements.specs.declared.head.Head.{Head}
-use Rattle.elements.specs.Elements.{headOf, part, deviationsAt, deviationCount, codesAt, presentCount, endAt}
+use Rattle.elements.specs.Elements.{headOf, deviationsAt, deviationCount, codesAt, presentCount, endAt}
 use Rattle.elements.specs.Formats.{codeFormat}
 use Rattle.elements.specs.Numbers.{elementRule}
 use Rattle.deviations.specs.declared.form.DeviationRange.{DeviationRange}
-use Rattle.deviations.specs.Range.{lentRule, formatOver}
+use Rattle.deviations.specs.Range.{lentRule, formatOver, rowPart}
 
 -- each of n elements of `size` bytes from `at` on, in turn, with what its format refuses
 abbrev pub inTurn : List ℕ → ℕ → ℕ → (ℕ → Answer) → ℕ → Answer
@@ -36,8 +36,7 @@ overRule used given = pick (ltb used given) (answer 2 (wholes (used ∷ given �
 abbrev pub ruleH : DeviationRange → List ℕ → Head → Answer
 ruleH range bytes h =
     inTurn bytes (deviationsAt h) (h .control .slen)
-    (λ i. formatOver range (h .control) i (part bytes (deviationsAt h + i * h .control .slen) (h .control .slen)))
-    (deviationCount h)
+    (λ i. formatOver range (h .control) i (rowPart bytes (deviationsAt h) (h .control) i)) (deviationCount h)
 
 module _ (bytes : List ℕ) (h : Head) where
   abbrev pub ruleI : Answer

@@ -7,12 +7,12 @@ use deviations::form::DeviationForm;
 use deviations::form::DeviationRange;
 use deviations::form::check_deviation_range;
 use deviations::form::deviation_form;
-use deviations::number::deviation_in;
 use elements::head::Opened;
 use elements::head::Places;
 use elements::head::deviation_count;
 use elements::head::open_pack;
 use elements::number::correlation_at;
+use elements::number::deviation_at;
 use elements::number::left;
 use elements::present::present_count;
 use layout::control::ParseControl;
@@ -59,7 +59,7 @@ fn deviations_held(bytes: &[u8], places: Places, form: DeviationForm) -> Check
     if let DeviationForm::Mapped(_) = form {
         return rows_in_turn(bytes, at, control, form, count);
     }
-    let first = deviation_in(bytes, at, control, form, 0);
+    let first = deviation_at(bytes, at, control);
     in_turn(first, count, control.slen as usize, left(bytes, at))
 }
 

@@ -17,12 +17,12 @@ use Rattle.layout.specs.declared.header.Header.{Header}
 use Rattle.layout.specs.declared.header.Header.the-variants.{Open, Unreadable, Short}
 use Rattle.layout.specs.Header.{matrixSize, controlOf, bodyAt, headerOf, headerRefusal, headRules}
 use Rattle.layout.specs.Size.{fitRules, sizeRules}
-use Rattle.elements.specs.Elements.{headOf, part, deviationsAt, deviationCount, codesAt, presentCount, endAt}
+use Rattle.elements.specs.Elements.{headOf, deviationsAt, deviationCount, codesAt, presentCount, endAt}
 use Rattle.elements.specs.Formats.{deviationFormat, codeFormat}
 use Rattle.elements.specs.Numbers.{elementRule}
 use Rattle.deviations.specs.declared.form.DeviationRange.{DeviationRange}
 use Rattle.deviations.specs.declared.form.DeviationRange.the-variants.{Unknown, Known}
-use Rattle.deviations.specs.Range.{lentRule, valueRule, formatOver}
+use Rattle.deviations.specs.Range.{lentRule, valueRule, formatOver, rowPart}
 use Rattle.reader.specs.Rules.{done, readAnswerIn}
 use Rattle.rules.specs.Rules.{inTurn, codesRule, overRule, ruleH, ruleI, ruleJ, ruleK, elementRules, packRules, roomRules}
 use Rattle.elements.specs.declared.head.Head.{Head}
@@ -96,7 +96,7 @@ elements-in : (range : DeviationRange) (bytes : List ℕ) → InTable (elementRu
 elements-in range bytes =
     let h = headOf bytes in
     let k = h .control in
-    let raw : ℕ → List ℕ = λ i. part bytes (deviationsAt h + i * k .slen) (k .slen) in
+    let raw : ℕ → List ℕ = rowPart bytes (deviationsAt h) k in
     in-next (ruleH range bytes h) (next (ruleI bytes h) (next (ruleJ bytes h) (ruleK bytes h)))
     (turns-in bytes (deviationsAt h) (k .slen) (λ i. formatOver range k i (raw i)) (λ i. over-range-in range k i (raw i)) (deviationCount h))
     (in-next (ruleI bytes h) (next (ruleJ bytes h) (ruleK bytes h)) (codes-in k (presentCount bytes h) (length bytes - codesAt h))

@@ -36,8 +36,8 @@ loop-holds c =
     let s = c .before .before .before in
     (tab-none (s .args .count) (deviation s) (s .pre .1), omega (arith, zero-mul (s .args .control .slen)))
 
-deviation-in-requires : tie.Need-deviation-in-requires Inv-loop μ-loop
-deviation-in-requires c κs = search needs
+deviation-of-requires : tie.Need-deviation-of-requires Inv-loop μ-loop
+deviation-of-requires c κs = search needs
 
 turn : (c : tie.In-loop Inv-loop μ-loop)
     → let a = start (c .before) .args in
@@ -58,7 +58,7 @@ same-length c = c .before .before .before .before .loop .inv .0 .long
 returns : tie.Need-returns Inv-loop μ-loop
 returns c =
     let d = c .before .before in
-    absurd (turn-never (turn (d .before)) (d .deviation-in .ensures) (c .enum-told .given .1))
+    absurd (turn-never (turn (d .before)) (d .deviation-of .ensures) (c .enum-told .given .1))
 
 mul-out : tie.Need-mul-out Inv-loop μ-loop
 mul-out c = omega arith
@@ -84,7 +84,7 @@ loop-again c =
     let w = d .before in
     let s = start (w .before) in
     let l = w .before .loop in
-    let x = turn-value (turn w) (d .deviation-in .ensures) (c .before .number .given .1) in
+    let x = turn-value (turn w) (d .deviation-of .ensures) (c .before .number .given .1) in
     (tab-more (s .args .count) (deviation s) (l .inv .0) (w .loop-test .taken) x, turn w .on)
 
 same-length-2 : tie.Need-same-length-2 Inv-loop μ-loop
@@ -103,7 +103,7 @@ fill-deviations-spec =
     μ-loop
     cast-size
     loop-holds
-    deviation-in-requires
+    deviation-of-requires
     enum-known-number
     enum-told
     same-length

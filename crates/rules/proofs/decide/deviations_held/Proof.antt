@@ -33,8 +33,8 @@ returns c = rw (c .before .before .before .deviation-count .ensures) at (c .rows
 enum-told-2 : tie.Need-enum-told-2
 enum-told-2 c = search needs
 
-deviation-in-requires : tie.Need-deviation-in-requires
-deviation-in-requires c κs = search needs
+deviation-at-requires : tie.Need-deviation-at-requires
+deviation-at-requires c κs = search needs
 
 cast-in-turn : tie.Need-cast-in-turn
 cast-in-turn c = search needs
@@ -55,7 +55,7 @@ returns-2 c =
     let s = d .before .before .before .before in
     let a = s .args in
     rw (f .enum-told2 .given .1)
-    (rw (c .before .left .ensures, d .deviation-count .ensures, c .before .before .before .deviation-in .ensures, f .enum-told2 .given .1) at (c .in-turn .ensures)
+    (rw (c .before .left .ensures, d .deviation-count .ensures, c .before .before .before .deviation-at .ensures) at (c .in-turn .ensures)
     ∙ sym (by-first-deviation (a .bytes .now) (a .places .deviations) (a .places .head .control) (deviationCount (a .places .head))))
 
 pub deviations-held-spec : {M : Type 1} → statement M
@@ -67,7 +67,7 @@ deviations-held-spec =
     rows-in-turn-requires
     returns
     enum-told-2
-    deviation-in-requires
+    deviation-at-requires
     cast-in-turn
     left-requires
     in-turn-requires
