@@ -32,11 +32,13 @@ readings =
     ∷ read 0x81a56e1fc2f8f359 0x3ff0000000000000 1 0
     ∷ read 0x81a56e1fc2f8f359 0x3ff0000000000000 1 129
     ∷ read 0x81a56e1fc2f8f359 0x3ff0000000000000 1 130
+    -- 16.2 to 32.2: the span is rounded to just above 16, so that b is 5 and a step 0.25
+    ∷ read 0x4030333333333333 0x404019999999999a 1 1
     ∷ []
 
 readings-are : readings
     ≡ value 0xbfe6666666666666 ∷ value 0xbfed000000000000 ∷ value 0x3fe0000000000001 ∷ value 0xbf80000000000000
-    ∷ Value one ∷ OutOfRange (ofBits binary64 0x3ff0200000000000) ∷ []
+    ∷ Value one ∷ OutOfRange (ofBits binary64 0x3ff0200000000000) ∷ value 0x4030733333333333 ∷ []
 unfolding numberIn valueIn topIn epsilonIn stepIn offsetIn scaleIn powerOf spanOf ofBits add sub mul div ofInt toUnsigned lt le floorOf
 readings-are = refl
 

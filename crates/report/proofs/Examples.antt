@@ -4,12 +4,15 @@ use mathlib.Core.Path.{_≡_, refl}
 use mathlib.Core.List.{[], _∷_, _++_}
 use lib.Ieee.{ofBits, toBits, ofInt, toUnsigned, add, sub, mul, div, le, round, nanBits}
 use lib.ListN.{replicate}
+use Rattle.answers.specs.declared.Refusal.the-variants.{NoDeviation, InvalidImapbParams}
+use Rattle.answers.specs.Listed.{listed}
 use Rattle.numbers.specs.BerOid.{oidRead}
 use Rattle.numbers.specs.Words.{wordOf}
 use Rattle.numbers.specs.Conversions.{nearest, converted}
 use Rattle.imapb.specs.Mapping.{value}
 use Rattle.layout.specs.Triangle.{slotsOf, slotOf}
 use Rattle.text.specs.Text.{ascii, places, hex}
+use Rattle.lines.specs.Lines.{refusedLine}
 use Rattle.report.specs.Printed.{printed}
 
 -- P1 of document 01
@@ -36,3 +39,12 @@ rows-65 = refl
 rows-64 : printed (0x40 ∷ 0x90 ∷ 0x01 ∷ replicate 64 0) ≡ ascii "refused 2 0 1\n"
 unfolding printed oidRead slotsOf places
 rows-64 = refl
+
+-- the refusals that a range adds: a row that is no value, and a bad range
+row-refused : refusedLine (listed (NoDeviation 0)) ≡ ascii "refused 8 0\n"
+unfolding places
+row-refused = refl
+
+range-refused : refusedLine (listed InvalidImapbParams) ≡ ascii "refused 9\n"
+unfolding places
+range-refused = refl

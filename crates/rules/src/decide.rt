@@ -29,6 +29,12 @@ ghost use Rattle.rules.specs.Decided.{decidedListed, decided, formRule};
 ghost use Rattle.rules.specs.Turns.{turnsRule};
 ghost use Rattle.rules.specs.Rules.{codesRule, overRule, codeRules};
 
+// What the rules decide: where a pack's elements start and how its deviations are read, or the first that refuses it.
+pub enum Decided {
+    Pack { places: Places, form: DeviationForm },
+    Refused(Refusal),
+}
+
 // Rule i): the codes that a Bit Vector announces are there.
 fn codes_there(control: ParseControl, present: usize, after: usize) -> Check
     requires { ⌜ present * control .clen < 2 ^ 64 ⌝ }
@@ -119,12 +125,6 @@ fn elements_whole(bytes: &[u8], places: Places, form: DeviationForm) -> Check
         return held;
     };
     codes_whole(bytes, places)
-}
-
-// What the rules decide: where a pack's elements start and how its deviations are read, or the first that refuses it.
-pub enum Decided {
-    Pack { places: Places, form: DeviationForm },
-    Refused(Refusal),
 }
 
 // The range that is lent, and rules a) to k).
