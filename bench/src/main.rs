@@ -1,4 +1,5 @@
 //! The Rust's side of what bench/run measures: the operation, the matrix and the figure of the program `pace`.
+mod codes;
 mod matrix;
 
 use std::env;
@@ -11,6 +12,8 @@ enum Op {
     Write,
     Peek,
     Cell,
+    Value,
+    Special,
     Each,
     Idle,
 }
@@ -39,9 +42,11 @@ fn asked() -> Job {
             "write" => Op::Write,
             "peek" => Op::Peek,
             "cell" => Op::Cell,
+            "value" => Op::Value,
+            "special" => Op::Special,
             "each" => Op::Each,
             "idle" => Op::Idle,
-            _ => panic!("OP is read, write, peek, cell, each or idle"),
+            _ => panic!("OP is read, write, peek, cell, value, special, each or idle"),
         },
         rows: number(1),
         clen: number(2),
@@ -103,9 +108,12 @@ fn peek(state: &State) -> u64 {
 
 fn each(state: &mut State, clen: usize) -> u64 {
     let slots = read(state);
+    let values = codes::of_values(&state.matrix.correlations, clen, &mut state.pack);
+    let specials = codes::of_specials(state.matrix.correlations.len(), clen, &mut state.pack);
     let length = write(state, clen);
     let rows = peek(state);
-    add(add(add(slots, length), rows), of_matrix(&state.matrix))
+    let coded = add(add(slots, values), specials);
+    add(add(add(coded, length), rows), of_matrix(&state.matrix))
 }
 
 fn once(job: &Job, state: &mut State) -> u64 {
@@ -114,6 +122,10 @@ fn once(job: &Job, state: &mut State) -> u64 {
         Op::Write => write(state, job.clen),
         Op::Peek => peek(state),
         Op::Cell => of_matrix(&state.matrix),
+        Op::Value => codes::of_values(&state.matrix.correlations, job.clen, &mut state.pack),
+        Op::Special => {
+            codes::of_specials(state.matrix.correlations.len(), job.clen, &mut state.pack)
+        }
         Op::Each => each(state, job.clen),
         Op::Idle => 0,
     }

@@ -1,7 +1,16 @@
 //! The figure: a number that depends on everything that was made, so that no compiler can leave any of it out.
+use answers::Written;
 
 // What a refusal adds.
 pub(crate) const REFUSED: u64 = u64::MAX;
+
+// The word of what a writer answers: how many bytes it wrote.
+pub(crate) fn of_written(written: Written) -> u64 {
+    match written {
+        Written::Done(length) => length as u64,
+        Written::Refused(_) => REFUSED,
+    }
+}
 
 // One word more.
 pub(crate) fn add(figure: u64, word: u64) -> u64 {

@@ -2,12 +2,14 @@
 use text::numeral::Numeral;
 use text::numeral::decimal;
 
-// Each does the four in turn. Idle does nothing, so that what the repetitions themselves cost can be taken off.
+// Each does the six in turn. Idle does nothing, so that what the repetitions themselves cost can be taken off.
 pub(crate) enum Op {
     Read,
     Write,
     Peek,
     Cell,
+    Value,
+    Special,
     Each,
     Idle,
 }
@@ -44,6 +46,8 @@ fn op_of(letter: u8) -> Op {
         b'w' => Op::Write,
         b'p' => Op::Peek,
         b'c' => Op::Cell,
+        b'v' => Op::Value,
+        b's' => Op::Special,
         b'e' => Op::Each,
         _ => Op::Idle,
     }

@@ -1,6 +1,7 @@
 //! Does one operation of the codec over and over, so that its cost can be measured (bench/run):
 //! pace OP N CLEN KIND REPS.
 mod cells;
+mod codes;
 mod figure;
 mod job;
 mod sample;

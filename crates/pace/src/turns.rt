@@ -1,10 +1,10 @@
 //! The repetitions.
 use crate::cells;
+use crate::codes;
 use crate::figure;
 use crate::figure::REFUSED;
 use crate::job::Job;
 use crate::job::Op;
-use answers::Written;
 use layout::size::Peek;
 use layout::size::peek_matrix_size;
 use reader::read::ReadAnswer;
@@ -36,10 +36,7 @@ fn read(pack: &[u8], deviations: &mut [u64], correlations: &mut [u64], presence:
 }
 
 pub(crate) fn write(deviations: &[u64], correlations: &[u64], clen: usize, pack: &mut [u8]) -> u64 {
-    match encode_sdcc_flp_mode2(deviations, correlations, clen, pack) {
-        Written::Done(length) => length as u64,
-        Written::Refused(_) => REFUSED,
-    }
+    figure::of_written(encode_sdcc_flp_mode2(deviations, correlations, clen, pack))
 }
 
 fn peek(pack: &[u8]) -> u64 {
@@ -49,7 +46,7 @@ fn peek(pack: &[u8]) -> u64 {
     }
 }
 
-// The pack is read and written again, peeked at, and its cells are looked up.
+// The pack is read, codes are written over it, it is written again, peeked at, and its cells are looked up.
 fn each(
     clen: usize,
     deviations: &mut [u64],
@@ -58,10 +55,13 @@ fn each(
     pack: &mut [u8],
 ) -> u64 {
     let slots = read(pack, deviations, correlations, presence);
+    let values = codes::of_values(correlations, clen, pack);
+    let specials = codes::of_specials(correlations.len(), clen, pack);
     let length = write(deviations, correlations, clen, pack);
     let rows = peek(pack);
     let cells = cells::of_matrix(deviations, correlations);
-    figure::add(figure::add(figure::add(slots, length), rows), cells)
+    let coded = figure::add(figure::add(slots, values), specials);
+    figure::add(figure::add(figure::add(coded, length), rows), cells)
 }
 
 // The operation, once, and what it answers.
@@ -78,6 +78,8 @@ fn once(
         Op::Write => write(deviations, correlations, job.clen, pack),
         Op::Peek => peek(pack),
         Op::Cell => cells::of_matrix(deviations, correlations),
+        Op::Value => codes::of_values(correlations, job.clen, pack),
+        Op::Special => codes::of_specials(correlations.len(), job.clen, pack),
         Op::Each => each(job.clen, deviations, correlations, presence, pack),
         Op::Idle => 0,
     }
