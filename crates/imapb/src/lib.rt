@@ -52,16 +52,10 @@ fn top_code(length: usize) -> u64
     TOP_CODES[length - 1]
 }
 
-// The code's bytes into the front of `out`: made in an array, and then copied out.
+// The code's bytes into the front of `out`, each to its place, last byte first.
 fn put_code(y: u64, length: usize, out: &mut [u8])
     requires { ⌜ (length ≤ 8) × (length ≤ lengthOf (now out)) ⌝ }
     ensures { λ _. ⌜ now (out .exit) ≡ over (bytesOf length y) (now (out .entry)) ⌝ }
 {
-    let mut code = [0u8; 8];
-    numbers::words::write_be(y, &mut code[..length]);
-    let mut i: usize = 0;
-    while i < length {
-        out[i] = code[i];
-        i += 1;
-    }
+    numbers::words::write_be(y, &mut out[..length]);
 }
