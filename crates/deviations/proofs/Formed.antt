@@ -11,7 +11,7 @@ use borrow.Author.Tests.{eq-eqb, lt-ltb, eqb-false}
 use lib.Dec.{eqb}
 use lib.Ieee.{Float}
 use lib.ListN.{length, length-take, length-drop}
-use Rattle.answers.specs.Table.{Answer, wholes, pick}
+use Rattle.answers.specs.Table.{Answer, wholes, next}
 use Rattle.answers.specs.Listed.{listed}
 use Rattle.answers.proofs.Next.{IsRule, says-passes, says-refused, rules}
 use Rattle.answers.proofs.OneToOne.{done-not-refused}
@@ -53,7 +53,7 @@ module _ (bytes : List ℕ) (at : ℕ) (c : ParseControl) (row : ℕ) where
 
     -- with Sf=1: refused alike, whether there are codes of that length or not
     mapped-rule : readingRule row (workedRead (workedOut min max (c .slen)) raw)
-        ≡ pick (supported (c .slen)) (valueRule row (readingIn min max (c .slen) (wordOf raw))) (lengthRule (c .slen))
+        ≡ next (lengthRule (c .slen)) (valueRule row (readingIn min max (c .slen) (wordOf raw)))
     mapped-rule =
         by-bool (supported (c .slen))
         (λ s. rw (worked-is min max (c .slen) good s raw size, s))

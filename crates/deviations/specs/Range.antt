@@ -2,12 +2,12 @@
 -- and in Mode 1, which has no Sf, all is as `elements` has it.
 use Prim.Native.Nat.{ℕ, _+_, _*_}
 use mathlib.Core.List.{List, [], _∷_}
-use Rattle.answers.specs.Table.{Answer, answer, wholes, pick, passes}
+use Rattle.answers.specs.Table.{Answer, answer, wholes, pick, passes, next}
 use Rattle.answers.specs.Lent.{tab}
 use Rattle.numbers.specs.Words.{wordOf}
 use Rattle.imapb.specs.declared.decode.DecodedImapb.{DecodedImapb}
 use Rattle.imapb.specs.declared.decode.DecodedImapb.the-variants.{Value, Special, ReservedSpecial, OutOfRange}
-use Rattle.imapb.specs.Tables.{supported, lengthRule}
+use Rattle.imapb.specs.Tables.{lengthRule}
 use Rattle.ranges.specs.Range.{readingIn}
 use Rattle.ranges.specs.Tables.{rangeRule}
 use Rattle.layout.specs.declared.control.ParseControl.{ParseControl}
@@ -35,7 +35,7 @@ abbrev pub formatOver : DeviationRange → ParseControl → ℕ → List ℕ →
 formatOver Unknown c row raw = deviationFormat c
 formatOver (Known min max) c row raw =
     pick (c .sf)
-    (pick (supported (c .slen)) (valueRule row (readingIn min max (c .slen) (wordOf raw))) (lengthRule (c .slen)))
+    (next (lengthRule (c .slen)) (valueRule row (readingIn min max (c .slen) (wordOf raw))))
     (deviationFormat c)
 
 -- the bytes of row i of deviations that start at `at`

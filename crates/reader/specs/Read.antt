@@ -3,8 +3,9 @@ use Prim.Native.Nat.{ℕ}
 use mathlib.Core.List.{List}
 use Rattle.answers.specs.Table.{Answer}
 use Rattle.answers.specs.Lent.{leaves}
-use Rattle.elements.specs.Elements.{headOf, deviations, correlations, presence}
+use Rattle.elements.specs.Elements.{headOf, correlations, presence}
 use Rattle.deviations.specs.declared.form.DeviationRange.{DeviationRange}
+use Rattle.deviations.specs.declared.form.DeviationRange.the-variants.{Unknown}
 use Rattle.deviations.specs.Range.{deviationsOver}
 
 abbrev pub leftDeviationsIn : DeviationRange → Answer → List ℕ → List ℕ → List ℕ
@@ -12,7 +13,7 @@ leftDeviationsIn range a bytes lent = leaves a (deviationsOver range bytes (head
 
 module _ (a : Answer) (bytes lent : List ℕ) where
   abbrev pub leftDeviations : List ℕ
-  leftDeviations = leaves a (deviations bytes (headOf bytes)) lent
+  leftDeviations = leftDeviationsIn Unknown a bytes lent
 
   abbrev pub leftCorrelations : List ℕ
   leftCorrelations = leaves a (correlations bytes (headOf bytes)) lent

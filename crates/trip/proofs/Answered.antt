@@ -4,13 +4,13 @@ use mathlib.Core.List.{List, [], _∷_}
 use Prim.Native.Nat.{ℕ, zero, suc, _+_, _-_, _*_}
 use lib.Dec.{ltb}
 use lib.ListN.{length}
-use Rattle.answers.specs.Table.{Answer, answer, short, wholes, pick, next}
+use Rattle.answers.specs.Table.{Answer, answer, short, wholes, next}
 use Rattle.answers.specs.Listed.{InTable}
 use Rattle.answers.proofs.InTable.{in-done, in-1, in-8, in-pick, in-next, table}
 use Rattle.numbers.specs.Words.{wordOf}
 use Rattle.imapb.specs.declared.decode.DecodedImapb.{DecodedImapb}
 use Rattle.imapb.specs.declared.decode.DecodedImapb.the-variants.{Value, Special, ReservedSpecial, OutOfRange}
-use Rattle.imapb.specs.Tables.{rangeRule, supported, lengthRule}
+use Rattle.imapb.specs.Tables.{rangeRule, lengthRule}
 use Rattle.ranges.specs.Range.{readingIn}
 use Rattle.layout.specs.declared.control.ParseControl.{ParseControl}
 use Rattle.layout.specs.declared.header.Header.{Header}
@@ -89,8 +89,8 @@ over-range-in : (range : DeviationRange) (k : ParseControl) (i : ℕ) (raw : Lis
 over-range-in Unknown k i raw = formats-in k .0
 over-range-in (Known min max) k i raw =
     let v = readingIn min max (k .slen) (wordOf raw) in
-    in-pick (k .sf) (pick (supported (k .slen)) (valueRule i v) (lengthRule (k .slen))) (deviationFormat k)
-    (in-pick (supported (k .slen)) (valueRule i v) (lengthRule (k .slen)) (values-in i v) (lengths-in (k .slen))) (formats-in k .0)
+    in-pick (k .sf) (next (lengthRule (k .slen)) (valueRule i v)) (deviationFormat k)
+    (in-next (lengthRule (k .slen)) (valueRule i v) (lengths-in (k .slen)) (values-in i v)) (formats-in k .0)
 
 elements-in : (range : DeviationRange) (bytes : List ℕ) → InTable (elementRules range bytes (headOf bytes))
 elements-in range bytes =
