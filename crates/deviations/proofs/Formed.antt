@@ -10,7 +10,7 @@ use native.Mathlib.Omega.{arith}
 use borrow.Author.Tests.{eq-eqb, lt-ltb, eqb-false}
 use lib.Dec.{eqb}
 use lib.Ieee.{Float}
-use lib.ListN.{length, length-take, length-drop}
+use lib.ListN.{length}
 use Rattle.answers.specs.Table.{Answer, wholes, next}
 use Rattle.answers.specs.Listed.{listed}
 use Rattle.answers.proofs.Next.{IsRule, says-passes, says-refused, rules}
@@ -27,6 +27,7 @@ use Rattle.ranges.proofs.Reading.{good-told, worked-out-is}
 use Rattle.layout.specs.declared.control.ParseControl.{ParseControl}
 use Rattle.elements.specs.Elements.{part}
 use Rattle.elements.specs.Numbers.{elementRule}
+use Rattle.elements.proofs.Parts.{part-whole}
 use Rattle.deviations.specs.declared.form.DeviationRange.{DeviationRange}
 use Rattle.deviations.specs.declared.form.DeviationRange.the-variants.{Unknown, Known}
 use Rattle.deviations.specs.Range.{lentRule, valueRule, formatOver, rowPart, deviationOver}
@@ -38,10 +39,6 @@ use Rattle.deviations.specs.Form.{formListed, formOf, formFormat, formBi
 worked-is : (min max : Float) (L : ℕ) → goodRange min max ≡ true → supported L ≡ true → (raw : List ℕ) → length raw ≡ L
     → workedRead (workedOut min max L) raw ≡ reads (readingIn min max L (wordOf raw))
 worked-is min max L good s raw e = worked-out-is min max L raw ∙ rw (s, good, eq-eqb (length raw) L e)
-
--- the bytes of an element that are there
-part-whole : (bytes : List ℕ) (at size : ℕ) → size ≤ length bytes - at → length (part bytes at size) ≡ size
-part-whole bytes at size h = simp (length-take, length-drop) (omega arith)
 
 module _ (bytes : List ℕ) (at : ℕ) (c : ParseControl) (row : ℕ) where
   abbrev raw : List ℕ

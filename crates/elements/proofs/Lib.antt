@@ -1,3 +1,4 @@
 pub mod OneAnswer
 pub mod Opened
+pub mod Parts
 pub mod Vector

@@ -9,7 +9,7 @@ use native.Mathlib.Omega.{arith}
 use borrow.Author.Tests.{lt-leb}
 use lib.Bits.{bitAnd, and-mask}
 use lib.Dec.{eqb}
-use lib.ListN.{length, take, drop, length-take, length-drop}
+use lib.ListN.{length, take, drop}
 use lib.Pow.{pow-pos, pow-mono}
 use lib.Seq.{take-add, drop-drop}
 use Rattle.answers.specs.Table.{pick}
@@ -20,6 +20,7 @@ use Rattle.imapb.specs.declared.mapping.Mapping.{Mapping}
 use Rattle.imapb.specs.Mapping.{scaleOf, topOf}
 use Rattle.imapb.specs.Special.{specialReading, reading}
 use Rattle.elements.specs.Elements.{part, valueBits}
+use Rattle.elements.proofs.Parts.{part-whole}
 use Rattle.reader.specs.Fill.{Maps}
 
 -- ---- what a mapping says of its length
@@ -45,7 +46,7 @@ module _ (L : ℕ) (least : 1 ≤ L) (most : L ≤ 8) where
 
   module _ (bytes : List ℕ) (at : ℕ) (words : 8 ≤ at) (held : at + L ≤ length bytes) where
     size : length (part bytes at L) ≡ L
-    size = simp (length-take, length-drop) (omega arith)
+    size = part-whole bytes at L (omega arith)
 
     pub code-last : bitAnd (wordOf (part bytes (at + L - 8) (at + L - (at + L - 8)))) (topOf L - 1 + topOf L) ≡ wordOf (part bytes at L)
     code-last =

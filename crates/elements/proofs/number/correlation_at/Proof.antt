@@ -9,8 +9,9 @@ use native.Mathlib.Omega.{arith}
 use borrow.Author.Needs.{needs}
 use borrow.Author.Tests.{lt-ltb, le-ltb, eq-eqb, not-true, not-false}
 use lib.Dec.{eqb}
-use lib.ListN.{length, length-take, length-drop}
+use lib.ListN.{length}
 use Rattle.answers.specs.Table.{Answer, answer, wholes, pick, passes, next}
+use Rattle.elements.proofs.Parts.{part-whole}
 use Rattle.elements.proofs.number.correlation_at.Statement.{statement}
 use Rattle.elements.proofs.number.correlation_at.Tie as tie
 use Rattle.elements.specs.Elements.{part, valueBits}
@@ -24,8 +25,7 @@ use Rattle.layout.specs.declared.control.ParseControl.{ParseControl}
 mapped : (bytes : List ℕ) (at : ℕ) (c : ParseControl) → c .cf ≡ true → c .clen ≤ length bytes - at
     → codeNumber (imapbRead (c .clen) (part bytes at (c .clen))) ≡ correlationNumber bytes at c
 mapped bytes at c m h =
-    let e : length (part bytes at (c .clen)) ≡ c .clen = simp (length-take, length-drop) (omega arith) in
-    rw (eq-eqb (length (part bytes at (c .clen))) (c .clen) e, le-ltb (length bytes - at) (c .clen) h, m) (go (supported (c .clen)) _)
+    rw (eq-eqb (length (part bytes at (c .clen))) (c .clen) (part-whole bytes at (c .clen) h), le-ltb (length bytes - at) (c .clen) h, m) (go (supported (c .clen)) _)
   where
     no : Answer
     no = answer 4 (wholes (c .clen ∷ []))
