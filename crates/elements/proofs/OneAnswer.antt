@@ -32,9 +32,9 @@ number-one (Refused r) (Refused s) e = ap Refused (listed-one r s (cc))
 
 pub opened-one : (a b : Opened) → openedListed a ≡ openedListed b → a ≡ b
 opened-one (opened.Pack p) (opened.Pack q) e = cc
-opened-one (opened.Pack p) (opened.Refused r) e = let z : _≡_ {A = ℕ} 0 1 = cc in absurd (omega arith)
-opened-one (opened.Refused r) (opened.Pack q) e = let z : _≡_ {A = ℕ} 0 1 = cc in absurd (omega arith)
-opened-one (opened.Refused r) (opened.Refused s) e = ap opened.Refused (listed-one r s (cc))
+opened-one (opened.Pack p) (opened.Refused x r) e = let z : _≡_ {A = ℕ} 0 1 = cc in absurd (omega arith)
+opened-one (opened.Refused x r) (opened.Pack q) e = let z : _≡_ {A = ℕ} 0 1 = cc in absurd (omega arith)
+opened-one (opened.Refused x r) (opened.Refused y s) e = let p : r ≡ s = listed-one r s (cc) in cc
 
 pub deviation-count-one : OneResult deviation-count.Learnt
 deviation-count-one κs a r r′ s s′ p q = p ∙ sym q

@@ -2,9 +2,10 @@
 use Prim.Native.Nat.{ℕ}
 use mathlib.Core.List.{List}
 use Rattle.answers.specs.Listed.{listed}
-use Rattle.answers.specs.Outcome.{Outcome, found, refused, unless}
 use Rattle.answers.specs.Table.{Answer}
 use Rattle.layout.specs.declared.pack.SdccFlp.{SdccFlp}
+use Rattle.layout.specs.declared.rule.Rule.{Rule}
+use Rattle.layout.specs.Ruled.{Ruled, passed, refusedBy}
 use Rattle.layout.specs.Triangle.{slotsOf}
 use Rattle.elements.specs.declared.head.Head.{Head}
 use Rattle.elements.specs.declared.head.Places.{Places}
@@ -16,10 +17,16 @@ use Rattle.elements.specs.Elements.{headOf, deviationCount, placesOf}
 abbrev pub packOf : Head → SdccFlp
 packOf h = record { «matrix_size» = h .n; deviations = deviationCount h; slots = slotsOf (h .n) }
 
-abbrev pub openedListed : Opened → Outcome Places
-openedListed (Pack p) = found p
-openedListed (Refused r) = refused (listed r)
+-- where a pack's elements start, or the rule that refuses it, with its answer
+pub data Verdict : Type 0 where
+  pack : Places → Verdict
+  refused : Rule → Answer → Verdict
 
--- the places of the bytes' elements where the rules pass, and their answer where they do not
-abbrev pub verdict : List ℕ → Answer → Outcome Places
-verdict bytes rules = unless rules (placesOf (headOf bytes))
+abbrev pub openedListed : Opened → Verdict
+openedListed (Pack p) = pack p
+openedListed (Refused x r) = refused x (listed r)
+
+-- the places of the bytes' elements where the rules pass, and the one that refuses where they do not
+abbrev pub verdict : List ℕ → Ruled → Verdict
+verdict bytes passed = pack (placesOf (headOf bytes))
+verdict bytes (refusedBy x a) = refused x a

@@ -1,14 +1,15 @@
 //! What the first two elements say of a pack, and where the others start.
-use answers::Check;
 use answers::Refusal;
 use layout::control::ParseControl;
 use layout::header::Header;
 use layout::header::read_header;
 use layout::pack::SdccFlp;
+use layout::rule::Rule;
+use layout::rule::Ruling;
 use layout::size::check_matrix_size_fits;
 use layout::triangle::corr_slots;
 ghost use mathlib.Core.Path.{_≡_};
-ghost use Rattle.layout.specs.Size.{fitRules};
+ghost use Rattle.layout.specs.Size.{fitRuled};
 ghost use Rattle.elements.specs.Elements.{vectorLength, deviationCount, placesOf};
 ghost use Rattle.elements.specs.Held.{Within};
 ghost use Rattle.elements.specs.Listed.{packOf, openedListed, verdict};
@@ -27,10 +28,10 @@ pub struct Places {
     pub codes: usize,
 }
 
-// The places of a pack that rules have passed, or the refusal of the first that did not.
+// The places of a pack that rules have passed, or the first that did not, with its refusal.
 pub enum Opened {
     Pack(Places),
-    Refused(Refusal),
+    Refused { rule: Rule, refusal: Refusal },
 }
 
 // N deviations, or none for Slen=0.
@@ -80,15 +81,21 @@ fn places_of(bytes: &[u8], head: Head) -> Places
 
 // Rules a) to g), and where the elements of what passes them start.
 pub fn open_pack(bytes: &[u8]) -> Opened
-    ensures { λ r. ⌜ openedListed r ≡ verdict (now (bytes .entry)) (fitRules (now (bytes .entry))) ⌝ }
+    ensures { λ r. ⌜ openedListed r ≡ verdict (now (bytes .entry)) (fitRuled (now (bytes .entry))) ⌝ }
 {
     match read_header(bytes) {
-        Header::Unreadable => Opened::Refused(Refusal::TruncatedField { needed: 0, got: 0 }),
-        Header::Short => Opened::Refused(Refusal::TruncatedField { needed: 1, got: 0 }),
+        Header::Unreadable => Opened::Refused {
+            rule: Rule::A,
+            refusal: Refusal::TruncatedField { needed: 0, got: 0 },
+        },
+        Header::Short => Opened::Refused {
+            rule: Rule::B,
+            refusal: Refusal::TruncatedField { needed: 1, got: 0 },
+        },
         Header::Open { n, control, body } => {
             let fits = check_matrix_size_fits(n, bytes.len() - body, control);
-            if let Check::Refused(refusal) = fits {
-                return Opened::Refused(refusal);
+            if let Ruling::Refused { rule, refusal } = fits {
+                return Opened::Refused { rule, refusal };
             }
             Opened::Pack(places_of(bytes, Head { n, control, body }))
         }

@@ -1,7 +1,7 @@
 -- The rules of a pack's size, as the code tests them.
 -- Assumes nothing.
-use mathlib.Core.Path.{_≡_, refl, sym, ap, _∙_}
-use mathlib.Core.Bool.{Bool, true, false, not, _&&_}
+use mathlib.Core.Path.{_≡_, sym, ap, _∙_}
+use mathlib.Core.Bool.{true, false, _&&_}
 use mathlib.Core.List.{List}
 use mathlib.Core.Logic.{by-cases}
 use Prim.Native.Nat.{ℕ, zero, suc, _+_, _*_, _/_, _≤_, _<_}
@@ -11,17 +11,19 @@ use native.Mathlib.Omega.{arith}
 use lib.Dec.{eqb, leb, ltb}
 use lib.ListN.{length, getD}
 use borrow.Author.Tests.{lt-ltb, le-ltb, le-leb, lt-leb, ne-eqb}
-use Rattle.answers.specs.Table.{Answer, short, pick, passes, next}
+use Rattle.answers.specs.Table.{Answer, short, pick, passes}
 use Rattle.answers.proofs.Rules.{picked}
 use Rattle.numbers.specs.declared.ber_oid.BerOid.the-variants.{Read}
 use Rattle.numbers.specs.BerOid.{oidValue, oidRead}
 use Rattle.numbers.proofs.BerOid.{read-tells}
 use Rattle.layout.specs.declared.control.ParseControl.{ParseControl}
 use Rattle.layout.specs.declared.header.Header.the-variants.{Open, Short}
+use Rattle.layout.specs.declared.rule.Rule.the-variants.{E, F, G}
 use Rattle.layout.specs.Control.{mode1, mode2}
 use Rattle.layout.specs.Triangle.{slotsOf, bitBytes}
 use Rattle.layout.specs.Header.{controlAt, matrixSize, headerOf}
-use Rattle.layout.specs.Size.{maxRows, sizeRules}
+use Rattle.layout.specs.Ruled.{Ruled, passed, named}
+use Rattle.layout.specs.Size.{maxRows, ruleF, ruleG, sizeRuled}
 
 -- a) and b), where a number was read
 module _ (bytes : List ℕ) {v k : ℕ} (e : Read v k ≡ oidRead bytes) where
@@ -60,24 +62,23 @@ some-length (suc a) b h = rw (ne-eqb (suc a) 0 (λ e. omega arith))
 abbrev pub isHeld : ℕ → ℕ → Answer
 isHeld needed left = pick (ltb left needed) (short needed left) passes
 
--- e), and then f) or g), where c) and d) pass
-module _ (n R : ℕ) (k : ParseControl) where
-  abbrev pub behindE : Answer
-  behindE =
-      pick (not (k .cs) && ltb R (slotsOf n * k .clen)) (short (slotsOf n * k .clen) R)
-      (pick (k .cs && ltb (8 * R) (slotsOf n)) (short (bitBytes (slotsOf n)) R) passes)
-
-  pub from-e : (k .slen + k .clen ≡ 0 → ⊥) → n ≤ maxRows → sizeRules n R k ≡ next (isHeld (n * k .slen) R) behindE
-  from-e a b =
-      rw (some-length (k .slen) (k .clen) a, le-ltb maxRows n b)
-      (sym (go (ltb R (n * k .slen))))
-    where
-      go : (t : Bool) → next (pick t (short (n * k .slen) R) passes) behindE ≡ pick t (short (n * k .slen) R) behindE
-      go true = refl
-      go false = refl
-
 -- g) ceil(M/8) bytes are more than R where M is more than 8R
-pub bit-bytes : (R M : ℕ) → ltb (8 * R) M ≡ ltb R (bitBytes M)
+bit-bytes : (R M : ℕ) → ltb (8 * R) M ≡ ltb R (bitBytes M)
 bit-bytes R M =
     by-cases (decLt (8 * R) M) (λ h. rw (lt-ltb (8 * R) M h, lt-ltb R ((M + 7) / 8) (omega arith)))
     (λ h. rw (le-ltb (8 * R) M (omega arith), le-ltb R ((M + 7) / 8) (omega arith)))
+
+-- e), and then f) or g), where c) and d) pass
+module _ (n R : ℕ) (k : ParseControl) where
+  abbrev pub behindE : Ruled
+  behindE = named F (ruleF n R k) (named G (ruleG n R k) passed)
+
+  pub from-e : (k .slen + k .clen ≡ 0 → ⊥) → n ≤ maxRows → sizeRuled n R k ≡ named E (isHeld (n * k .slen) R) behindE
+  from-e a b = rw (some-length (k .slen) (k .clen) a, le-ltb maxRows n b)
+
+  -- g) with a Bit Vector, f) without
+  pub behind-g : k .cs ≡ true → behindE ≡ named G (isHeld (bitBytes (slotsOf n)) R) passed
+  behind-g e = rw (e, bit-bytes R (slotsOf n))
+
+  pub behind-f : k .cs ≡ false → behindE ≡ named F (isHeld (slotsOf n * k .clen) R) passed
+  behind-f e = rw e

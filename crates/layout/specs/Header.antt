@@ -4,7 +4,7 @@ use mathlib.Core.Bool.{Bool}
 use mathlib.Core.List.{List}
 use lib.Dec.{leb, ltb}
 use lib.ListN.{length, getD}
-use Rattle.answers.specs.Table.{Answer, short, pick, passes}
+use Rattle.answers.specs.Table.{Answer, short, pick, passes, next}
 use Rattle.numbers.specs.declared.ber_oid.BerOid.{BerOid}
 use Rattle.numbers.specs.declared.ber_oid.BerOid.the-variants as oid
 use Rattle.numbers.specs.BerOid.{continued, oidValue, oidRead}
@@ -42,11 +42,19 @@ abbrev pub headerOf : List ℕ → Header
 headerOf bytes = headerBehind bytes (oidRead bytes)
 
 -- a) N unreadable: 1 with 0, 0
+abbrev pub ruleA : Header → Answer
+ruleA Unreadable = short 0 0
+ruleA Short = passes
+ruleA (Open n control body) = passes
+
 -- b) Parse Control short: 1 with 1, 0
+abbrev pub ruleB : Header → Answer
+ruleB Unreadable = passes
+ruleB Short = short 1 0
+ruleB (Open n control body) = passes
+
 abbrev pub headerRefusal : Header → Answer
-headerRefusal Unreadable = short 0 0
-headerRefusal Short = short 1 0
-headerRefusal (Open n control body) = passes
+headerRefusal h = next (ruleA h) (ruleB h)
 
 abbrev pub headRules : List ℕ → Answer
 headRules bytes = headerRefusal (headerOf bytes)

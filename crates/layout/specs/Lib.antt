@@ -1,3 +1,4 @@
+pub mod Ruled
 pub mod Control
 pub mod Triangle
 pub mod Header

@@ -3,5 +3,6 @@
 pub mod control;
 pub mod header;
 pub mod pack;
+pub mod rule;
 pub mod size;
 pub mod triangle;

@@ -3,6 +3,9 @@ use crate::control::ParseControl;
 use crate::header::Header;
 use crate::header::header_behind;
 use crate::pack::SdccFlp;
+use crate::rule::Rule;
+use crate::rule::Ruling;
+use crate::rule::by;
 use crate::triangle::corr_slots;
 use answers::Check;
 use answers::Refusal;
@@ -12,7 +15,8 @@ ghost use mathlib.Core.Path.{_≡_};
 ghost use lib.Dec.{ltb};
 ghost use Rattle.answers.specs.Table.{short, pick, passes};
 ghost use Rattle.answers.specs.Listed.{checked};
-ghost use Rattle.layout.specs.Size.{sizeRules, peeked};
+ghost use Rattle.layout.specs.Ruled.{ruled};
+ghost use Rattle.layout.specs.Size.{sizeRuled, peeked};
 
 // The size that a pack says, where the pack's own bytes could hold it.
 pub enum Peek {
@@ -32,34 +36,40 @@ fn held(needed: usize, left: usize) -> Check
 }
 
 // Rules c) to g), with so many bytes left after Parse Control.
-pub fn check_matrix_size_fits(n: u32, remaining: usize, control: ParseControl) -> Check
-    ensures { λ r. ⌜ checked r ≡ sizeRules n remaining control ⌝ }
+pub fn check_matrix_size_fits(n: u32, remaining: usize, control: ParseControl) -> Ruling
+    ensures { λ r. ⌜ ruled r ≡ sizeRuled n remaining control ⌝ }
 {
     let rows = n as u64;
     let slen = control.slen as usize;
     let clen = control.clen as usize;
     if slen + clen == 0 {
-        return Check::Refused(Refusal::InvalidLength {
-            expected: 0,
-            got: 0,
-        });
+        return Ruling::Refused {
+            rule: Rule::C,
+            refusal: Refusal::InvalidLength {
+                expected: 0,
+                got: 0,
+            },
+        };
     }
     if SdccFlp::MAX_ROWS < rows {
-        return Check::Refused(Refusal::OutOfRange {
-            value: rows,
-            least: 0,
-            most: SdccFlp::MAX_ROWS,
-        });
+        return Ruling::Refused {
+            rule: Rule::D,
+            refusal: Refusal::OutOfRange {
+                value: rows,
+                least: 0,
+                most: SdccFlp::MAX_ROWS,
+            },
+        };
     }
-    let deviations = held(n as usize * slen, remaining);
-    let Check::Passes = deviations else {
+    let deviations = by(Rule::E, held(n as usize * slen, remaining));
+    let Ruling::Passes = deviations else {
         return deviations;
     };
     let slots = corr_slots(n) as usize;
     if control.cs {
-        return held((slots + 7) / 8, remaining);
+        return by(Rule::G, held((slots + 7) / 8, remaining));
     }
-    held(slots * clen, remaining)
+    by(Rule::F, held(slots * clen, remaining))
 }
 
 // N, where rules a) to g) pass. It costs the same for any pack.
@@ -74,8 +84,8 @@ pub fn peek_matrix_size(bytes: &[u8]) -> Peek
     let Header::Open { n, control, body } = header else {
         return Peek::Nothing;
     };
-    let check = check_matrix_size_fits(n, bytes.len() - body, control);
-    let Check::Passes = check else {
+    let fits = check_matrix_size_fits(n, bytes.len() - body, control);
+    let Ruling::Passes = fits else {
         return Peek::Nothing;
     };
     Peek::Size(n)

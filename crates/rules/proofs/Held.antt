@@ -24,9 +24,10 @@ use Rattle.elements.specs.Held.{SlotsHeld, Within}
 use Rattle.deviations.specs.declared.form.DeviationRange.{DeviationRange}
 use Rattle.deviations.specs.Range.{lentRule, rowPart}
 use Rattle.deviations.specs.Form.{Form, formOf, formFormat}
-use Rattle.rules.specs.Rules.{inTurn, ruleH, ruleI, ruleJ, ruleK, codeRules, elementRules, roomRules}
+use Rattle.rules.specs.Rules.{inTurn, ruleH, ruleI, ruleJ, ruleK, elementRules, roomRules}
 use Rattle.rules.proofs.InTurn.{Format}
 use Rattle.rules.proofs.Decided.{by-form, code-format}
+use Rattle.rules.proofs.Named.{element-answers}
 use Rattle.elements.proofs.Vector.{present-le}
 
 -- ---- how large the counts can be
@@ -61,7 +62,7 @@ module _ (bytes : List ℕ) (at size : ℕ) (format : ℕ → Answer) where
   enough n w h =
       by-cases (ℕ-discrete size 0) (λ (z : size ≡ 0). rw (z, mul-zero (suc n)) (omega arith)) (λ (z : size ≡ 0 → ⊥). omega (arith, suc-mul n size))
 
-  turns-held : (n : ℕ) → at ≤ length bytes → inTurn bytes at size format n .number ≡ 0
+  pub turns-held : (n : ℕ) → at ≤ length bytes → inTurn bytes at size format n .number ≡ 0
       → (at + n * size ≤ length bytes) × ((i : ℕ) → i < n → format i .number ≡ 0)
   turns-held zero w e = (omega (arith, zero-mul size), λ i l. absurd (omega arith))
   turns-held (suc n) w e =
@@ -82,7 +83,7 @@ pub held : (range : DeviationRange) (bytes : List ℕ) (h : Head) → lentRule r
     → elementRules range bytes h .number ≡ 0 → Held bytes h (formOf range (h .control))
 held range bytes h z w e =
     let k = h .control in
-    let a = next-zero (ruleH range bytes h) (codeRules bytes h) e in
+    let a = next-zero (ruleH range bytes h) _ (rw (element-answers range bytes h) at e) in
     let b = next-zero (ruleI bytes h) (next (ruleJ bytes h) (ruleK bytes h)) (a .1) in
     let j = next-zero (ruleJ bytes h) (ruleK bytes h) (b .1) in
     let ds =

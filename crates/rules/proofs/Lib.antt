@@ -1,6 +1,9 @@
 pub mod Decided
 pub mod Held
 pub mod InTurn
+pub mod Named
+pub mod Judged
+pub mod Refused
 pub mod OneAnswer
 pub mod Verdict
 pub mod Rows

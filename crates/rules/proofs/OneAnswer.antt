@@ -5,12 +5,14 @@ use Prim.Native.Nat.{ℕ}
 use native.Mathlib.Omega.{arith}
 use Rattle.answers.specs.OneAnswer.{OneResult}
 use Rattle.answers.proofs.OneToOne.{listed-one, checked-one}
+use Rattle.elements.proofs.OneAnswer.{opened-one}
 use Rattle.deviations.specs.Form.{formListed}
 use Rattle.deviations.proofs.OneAnswer.{form-one}
 use Rattle.rules.specs.declared.decide.Decided.{Decided}
 use Rattle.rules.specs.declared.decide.Decided.the-variants.{Pack, Refused}
 use Rattle.rules.specs.Decided.{Ready, ready, decidedListed}
 use Rattle.rules.proofs.decide.decide.Reads as decide
+use Rattle.rules.proofs.judge.judge.Reads as judge
 use Rattle.rules.proofs.rooms.check_rooms.Reads as check-rooms
 
 -- what determines the listed answer determines the enum
@@ -26,6 +28,9 @@ decided-one (Refused r) (Refused s) e = ap Refused (listed-one r s (cc))
 
 pub decide-one : OneResult decide.Learnt
 decide-one κs a r r′ s s′ p q = decided-one r r′ (p ∙ sym q)
+
+pub judge-one : OneResult judge.Learnt
+judge-one κs a r r′ s s′ p q = opened-one r r′ (p ∙ sym q)
 
 pub check-rooms-one : OneResult check-rooms.Learnt
 check-rooms-one κs a r r′ s s′ p q = checked-one r r′ (p ∙ sym q)

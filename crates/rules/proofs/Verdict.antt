@@ -5,20 +5,24 @@ use mathlib.Core.List.{List}
 use Prim.Native.Nat.{ℕ}
 use Rattle.answers.specs.Listed.{listed}
 use Rattle.answers.specs.Outcome.{found, refused}
-use Rattle.answers.specs.Table.{Answer, passes, next}
+use Rattle.answers.specs.Table.{Answer, next}
 use Rattle.answers.specs.declared.Refusal.{Refusal}
 use Rattle.answers.proofs.Next.{next-passed}
 use Rattle.answers.proofs.OneToOne.{refused-not-done}
-use Rattle.answers.proofs.Outcome.{found-tells, refused-tells, found-where, refused-where}
-use Rattle.layout.specs.Size.{fitRules}
+use Rattle.answers.proofs.Outcome.{found-where, refused-where}
+use Rattle.layout.specs.declared.rule.Rule.{Rule}
+use Rattle.layout.specs.Ruled.{Ruled, passed, refusedBy, unnamed}
+use Rattle.layout.specs.Size.{fitRules, fitRuled}
 use Rattle.elements.specs.declared.head.Places.{Places}
 use Rattle.elements.specs.Elements.{headOf, placesOf, deviationCount}
-use Rattle.elements.specs.Listed.{verdict}
+use Rattle.elements.specs.Listed.{pack, verdict}
+use Rattle.elements.specs.Listed as opened
+use Rattle.elements.proofs.Opened.{pack-tells, refused-tells, opened-fits}
 use Rattle.deviations.specs.declared.form.DeviationRange.{DeviationRange}
 use Rattle.deviations.specs.Range.{lentRule}
 use Rattle.deviations.specs.Form.{Form, formOf}
 use Rattle.rules.specs.Decided.{ready, readyOf, decided, formRule}
-use Rattle.rules.specs.Rules.{codeRules, elementRules, packRules}
+use Rattle.rules.specs.Rules.{elementRuled, elementRules, packRules}
 use Rattle.rules.proofs.Decided.{by-form}
 
 module _ (range : DeviationRange) (bytes : List ℕ) where
@@ -27,27 +31,30 @@ module _ (range : DeviationRange) (bytes : List ℕ) where
   first r e = refused-where (packRules range bytes) (readyOf range bytes) r (rw (← e, refused-not-done r))
 
   module _ (z : lentRule range .number ≡ 0) where
-    pub early : (r : Refusal) → refused (listed r) ≡ verdict bytes (fitRules bytes) → refused (listed r) ≡ decided range bytes
+    pub early : {x : Rule} (r : Refusal) → opened.refused x (listed r) ≡ verdict bytes (fitRuled bytes) → refused (listed r) ≡ decided range bytes
     early r e =
-        let f : fitRules bytes ≡ listed r = refused-tells (fitRules bytes) (placesOf (headOf bytes)) e in
-        refused-where (packRules range bytes) (readyOf range bytes) r (rw (z, f, refused-not-done r))
+        refused-where (packRules range bytes) (readyOf range bytes) r
+        (rw (z, refused-tells bytes (fitRuled bytes) e, refused-not-done r))
 
-    module _ {p : Places} (o : found p ≡ verdict bytes (fitRules bytes)) where
-      told : (fitRules bytes .number ≡ 0) × (p ≡ placesOf (headOf bytes))
-      told = found-tells (fitRules bytes) (placesOf (headOf bytes)) o
+    module _ {p : Places} (o : pack p ≡ verdict bytes (fitRuled bytes)) where
+      is : p ≡ placesOf (headOf bytes)
+      is = pack-tells bytes (fitRuled bytes) o .1
 
-      abbrev whole : Answer
-      whole = next (formRule bytes (p .deviations) (p .head .control) (formOf range (p .head .control)) (deviationCount (p .head))) (codeRules bytes (p .head))
+      abbrev h : Answer
+      h = formRule bytes (p .deviations) (p .head .control) (formOf range (p .head .control)) (deviationCount (p .head))
 
-      left : packRules range bytes ≡ whole
+      left : packRules range bytes ≡ unnamed (elementRuled h bytes (p .head))
       left =
           next-passed (lentRule range) (next (fitRules bytes) (elementRules range bytes (headOf bytes))) z
-          ∙ next-passed (fitRules bytes) (elementRules range bytes (headOf bytes)) (told .0)
-          ∙ rw (told .1, by-form range bytes (placesOf (headOf bytes) .deviations) (headOf bytes .control) z (deviationCount (headOf bytes)))
+          ∙ next-passed (fitRules bytes) (elementRules range bytes (headOf bytes)) (opened-fits bytes o)
+          ∙ rw (is, by-form range bytes (placesOf (headOf bytes) .deviations) (headOf bytes .control) z (deviationCount (headOf bytes)))
 
-      pub later : (r : Refusal) → listed r ≡ whole → refused (listed r) ≡ decided range bytes
-      later r e = refused-where (packRules range bytes) (readyOf range bytes) r (left ∙ sym e)
+      whole : {u : Ruled} → u ≡ elementRuled h bytes (p .head) → packRules range bytes ≡ unnamed u
+      whole e = left ∙ sym (ap unnamed e)
 
-      pub all-pass : (f : Form) → f ≡ formOf range (p .head .control) → whole ≡ passes → found (ready p f) ≡ decided range bytes
+      pub later : {x : Rule} (r : Refusal) → refusedBy x (listed r) ≡ elementRuled h bytes (p .head) → refused (listed r) ≡ decided range bytes
+      later r e = refused-where (packRules range bytes) (readyOf range bytes) r (whole e)
+
+      pub all-pass : (f : Form) → f ≡ formOf range (p .head .control) → passed ≡ elementRuled h bytes (p .head) → found (ready p f) ≡ decided range bytes
       all-pass f k e =
-          rw (k, told .1) (found-where (packRules range bytes) (readyOf range bytes) (ap (λ (x : Answer). x .number) (left ∙ e)))
+          rw (k, is) (found-where (packRules range bytes) (readyOf range bytes) (ap (λ (x : Answer). x .number) (whole e)))

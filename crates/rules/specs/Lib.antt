@@ -1,3 +1,4 @@
 pub mod Rules
+pub mod Named
 pub mod Turns
 pub mod Decided

@@ -7,6 +7,8 @@ use lib.Dec.{eqb, ltb}
 use lib.ListN.{length}
 use Rattle.answers.specs.Table.{Answer, answer, short, wholes, pick, passes, next}
 use Rattle.layout.specs.declared.control.ParseControl.{ParseControl}
+use Rattle.layout.specs.declared.rule.Rule.the-variants.{H, I, J, K}
+use Rattle.layout.specs.Ruled.{Ruled, passed, named, unnamed}
 use Rattle.layout.specs.Size.{fitRules}
 use Rattle.layout.specs.Triangle.{slotsOf}
 use Rattle.elements.specs.declared.head.Head.{Head}
@@ -49,13 +51,17 @@ module _ (bytes : List ℕ) (h : Head) where
   abbrev pub ruleK : Answer
   ruleK = overRule (endAt bytes h) (length bytes)
 
-  -- i) to k)
-  abbrev pub codeRules : Answer
-  codeRules = next ruleI (next ruleJ ruleK)
+  -- i) to k), by name
+  abbrev pub codeRuled : Ruled
+  codeRuled = named I ruleI (named J ruleJ (named K ruleK passed))
 
--- h) to k)
+-- h), whose answer is given, and behind it i) to k)
+abbrev pub elementRuled : Answer → List ℕ → Head → Ruled
+elementRuled a bytes h = named H a (codeRuled bytes h)
+
+-- h) to k), without the names
 abbrev pub elementRules : DeviationRange → List ℕ → Head → Answer
-elementRules range bytes h = next (ruleH range bytes h) (codeRules bytes h)
+elementRules range bytes h = unnamed (elementRuled (ruleH range bytes h) bytes h)
 
 -- the range that is lent, and a) to k)
 abbrev pub packRules : DeviationRange → List ℕ → Answer

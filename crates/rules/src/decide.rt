@@ -16,18 +16,22 @@ use elements::number::deviation_at;
 use elements::number::left;
 use elements::present::present_count;
 use layout::control::ParseControl;
+use layout::rule::Rule;
+use layout::rule::Ruling;
+use layout::rule::by;
 ghost use mathlib.Core.Path.{_≡_};
 ghost use Prim.Native.Nat.{_-_, _*_, _<_, _^_};
 ghost use lib.ListN.{length};
 ghost use Rattle.answers.specs.Listed.{checked};
 ghost use Rattle.elements.specs.Held.{Placed};
 ghost use Rattle.elements.specs.Numbers.{correlationNumber};
-ghost use Rattle.answers.specs.Table.{next};
+ghost use Rattle.layout.specs.Ruled.{ruled};
 ghost use Rattle.elements.specs.Elements.{deviationCount};
 ghost use Rattle.deviations.specs.Form.{formListed};
 ghost use Rattle.rules.specs.Decided.{decidedListed, decided, formRule};
 ghost use Rattle.rules.specs.Turns.{turnsRule};
-ghost use Rattle.rules.specs.Rules.{codesRule, overRule, codeRules};
+ghost use Rattle.rules.specs.Rules.{codeRuled, elementRuled};
+ghost use Rattle.rules.specs.Rules.{codesRule, overRule};
 
 // What the rules decide: where a pack's elements start and how its deviations are read, or the first that refuses it.
 pub enum Decided {
@@ -94,34 +98,37 @@ fn nothing_over(bytes: &[u8], end: usize) -> Check
 }
 
 // Rules i) to k).
-fn codes_whole(bytes: &[u8], places: Places) -> Check
+fn codes_whole(bytes: &[u8], places: Places) -> Ruling
     requires { ⌜ Placed (now bytes) places ⌝ }
-    ensures { λ r. ⌜ checked r ≡ codeRules (now (bytes .entry)) (places .head) ⌝ }
+    ensures { λ r. ⌜ ruled r ≡ codeRuled (now (bytes .entry)) (places .head) ⌝ }
 {
     let head = places.head;
     let control = head.control;
     let at = places.codes;
     let present = present_count(bytes, head);
-    let there = codes_there(control, present, left(bytes, at));
-    let Check::Passes = there else {
+    let there = by(Rule::I, codes_there(control, present, left(bytes, at)));
+    let Ruling::Passes = there else {
         return there;
     };
-    let held = codes_held(bytes, control, at, present);
-    let Check::Passes = held else {
+    let held = by(Rule::J, codes_held(bytes, control, at, present));
+    let Ruling::Passes = held else {
         return held;
     };
-    nothing_over(bytes, at + present * control.clen as usize)
+    by(
+        Rule::K,
+        nothing_over(bytes, at + present * control.clen as usize),
+    )
 }
 
 // Rules h) to k), of a pack that has passed a) to g).
-fn elements_whole(bytes: &[u8], places: Places, form: DeviationForm) -> Check
+pub(crate) fn elements_whole(bytes: &[u8], places: Places, form: DeviationForm) -> Ruling
     requires { ⌜ Placed (now bytes) places ⌝ }
-    ensures { λ r. ⌜ checked r
-        ≡ next (formRule (now (bytes .entry)) (places .deviations) (places .head .control) (formListed form)
-        (deviationCount (places .head))) (codeRules (now (bytes .entry)) (places .head)) ⌝ }
+    ensures { λ r. ⌜ ruled r
+        ≡ elementRuled (formRule (now (bytes .entry)) (places .deviations) (places .head .control) (formListed form)
+        (deviationCount (places .head))) (now (bytes .entry)) (places .head) ⌝ }
 {
-    let held = deviations_held(bytes, places, form);
-    let Check::Passes = held else {
+    let held = by(Rule::H, deviations_held(bytes, places, form));
+    let Ruling::Passes = held else {
         return held;
     };
     codes_whole(bytes, places)
@@ -135,10 +142,10 @@ pub fn decide(bytes: &[u8], range: DeviationRange) -> Decided
         return Decided::Refused(refusal);
     }
     match open_pack(bytes) {
-        Opened::Refused(refusal) => Decided::Refused(refusal),
+        Opened::Refused { rule: _, refusal } => Decided::Refused(refusal),
         Opened::Pack(places) => {
             let form = deviation_form(range, places.head.control);
-            if let Check::Refused(refusal) = elements_whole(bytes, places, form) {
+            if let Ruling::Refused { rule: _, refusal } = elements_whole(bytes, places, form) {
                 return Decided::Refused(refusal);
             }
             Decided::Pack { places, form }

@@ -4,15 +4,13 @@ use mathlib.Core.List.{List}
 use mathlib.Core.Path.{_≡_, sym, ap, _∙_}
 use Prim.Native.Nat.{ℕ}
 use borrow.Author.Needs.{needs}
-use Rattle.answers.specs.Listed.{checked}
-use Rattle.answers.specs.Outcome.{found}
-use Rattle.answers.proofs.Outcome.{found-where, refused-where}
-use Rattle.answers.specs.Table.{Answer}
-use Rattle.elements.proofs.Opened.{unreadable-refused, short-refused, head-is, fit-within}
-use Rattle.elements.specs.Elements.{headOf, placesOf}
+use Rattle.elements.proofs.Opened.{unreadable-refused, short-refused, head-is, fit-within, passed-fits}
+use Rattle.elements.specs.Elements.{placesOf}
+use Rattle.elements.specs.Listed.{pack}
 use Rattle.layout.proofs.Peek.{body-within, fit-is}
 use Rattle.layout.specs.Header.{headerOf}
-use Rattle.layout.specs.Size.{fitRules}
+use Rattle.layout.specs.Ruled.{passed, ruled}
+use Rattle.layout.specs.Size.{fitRuled}
 use Rattle.layout.specs.declared.header.Header.the-variants.{Open}
 use Rattle.elements.proofs.head.open_pack.Statement.{statement}
 use Rattle.elements.proofs.head.open_pack.Tie as tie
@@ -25,7 +23,7 @@ was-open : (c : tie.After-known-told) → let g = c .before .n .given .0 in Open
 was-open c = sym (c .before .n .given .1) ∙ c .before .before .before .read-header .ensures
 
 -- what the size check says
-fits : (c : tie.After-check-matrix-size-fits) → checked (c .check-matrix-size-fits .result) ≡ fitRules (bytes (c .before))
+fits : (c : tie.After-check-matrix-size-fits) → ruled (c .check-matrix-size-fits .result) ≡ fitRuled (bytes (c .before))
 fits c = c .check-matrix-size-fits .ensures ∙ sym (fit-is (bytes (c .before)) (was-open (c .before)))
 
 read-header-requires : tie.Need-read-header-requires
@@ -53,20 +51,19 @@ returns : tie.Need-returns
 returns c =
     let d = c .before .before .before in
     let b = bytes (d .before) in
-    let e = c .before .fits2 .given in
-    refused-where (fitRules b) (placesOf (headOf b)) (e .0 .0) (sym (fits d) ∙ ap checked (e .1))
+    rw (← (fits d), c .before .fits2 .given .1)
 
 enum-told-3 : tie.Need-enum-told-3
 enum-told-3 c = search needs
 
 -- what passes
-passed : (c : tie.After-enum-told3) → fitRules (bytes (c .before .before .before)) .number ≡ 0
-passed c = ap (λ (x : Answer). x .number) (sym (fits (c .before .before)) ∙ ap checked (c .enum-told3 .given .1))
+passes : (c : tie.After-enum-told3) → fitRuled (bytes (c .before .before .before)) ≡ passed
+passes c = sym (fits (c .before .before)) ∙ ap ruled (c .enum-told3 .given .1)
 
 places-of-requires : tie.Need-places-of-requires
 places-of-requires c κs =
     let d = c .before .before .before in
-    rw (head-is (bytes d) (was-open d)) (fit-within (bytes d) (passed c))
+    rw (head-is (bytes d) (was-open d)) (fit-within (bytes d) (passed-fits (bytes d) (passes c)))
 
 returns-2 : tie.Need-returns-2
 returns-2 c = unreadable-refused (c .before .before .before .before .args .bytes .now) (sym (c .enum-told .given .1) ∙ c .before .before .read-header .ensures)
@@ -78,8 +75,7 @@ returns-4 : tie.Need-returns-4
 returns-4 c =
     let d = c .before .before .before .before in
     let b = bytes d in
-    ap found (c .places-of .ensures ∙ ap placesOf (head-is b (was-open d)))
-    ∙ found-where (fitRules b) (placesOf (headOf b)) (passed (c .before))
+    rw (passes (c .before)) (ap pack (c .places-of .ensures ∙ ap placesOf (head-is b (was-open d))))
 
 pub open-pack-spec : {M : Type 1} → statement M
 open-pack-spec =

@@ -6,22 +6,15 @@ use native.Mathlib.Nat.{mul-le-mul}
 use native.Mathlib.Omega.{arith}
 use borrow.Author.Needs.{needs}
 use borrow.Author.Tests.{lt-ltb, eq-eqb}
-use Rattle.answers.specs.Table.{next}
-use Rattle.answers.proofs.Next.{stops, goes}
-use Rattle.layout.specs.Size.{maxRows, maxSlots, sizeRules}
+use Rattle.answers.specs.Table.{Answer}
+use Rattle.layout.specs.declared.rule.Rule.the-variants.{E}
+use Rattle.layout.specs.Ruled.{Ruled, passed, ruled, named}
+use Rattle.layout.specs.Size.{maxRows, maxSlots, sizeRuled}
 use Rattle.layout.proofs.RowByRow.{few-slots}
-use Rattle.layout.proofs.Rules.{some-length, isHeld, behindE, from-e, bit-bytes}
+use Rattle.layout.proofs.Ruled.{stops-by, goes-by}
+use Rattle.layout.proofs.Rules.{some-length, isHeld, behindE, from-e, behind-f, behind-g}
 use Rattle.layout.proofs.size.check_matrix_size_fits.Statement.{statement}
 use Rattle.layout.proofs.size.check_matrix_size_fits.Tie as tie
-
-cast-slen : tie.Need-cast-slen
-cast-slen c = search needs
-
-cast-clen : tie.Need-cast-clen
-cast-clen c = search needs
-
-add-if1 : tie.Need-add-if1
-add-if1 c = search needs
 
 returns : tie.Need-returns
 returns c =
@@ -38,83 +31,84 @@ mul-held c =
     let a = c .before .before .before .before .args in
     omega (arith, mul-le-mul {n₁ = a .n} {m₁ = a .control .slen} {n₂ = 256} {m₂ = 255} (omega arith) (omega arith))
 
-held-requires : tie.Need-held-requires
-held-requires c κs = tt
+-- e), what is behind it, and all
+module _ (c : tie.After-by) where
+  abbrev start : tie.Start
+  start = c .before .before .before .before .before .before
 
-enum-told : tie.Need-enum-told
-enum-told c = search needs
+  abbrev e : Answer
+  e = isHeld (start .args .n * start .args .control .slen) (start .args .remaining)
 
-enum-told-2 : tie.Need-enum-told-2
-enum-told-2 c = search needs
+  abbrev rest : Ruled
+  rest = behindE (start .args .n) (start .args .remaining) (start .args .control)
 
--- c) and d) pass
-from : (c : tie.After-held) → let a = c .before .before .before .before .before .args in
-    sizeRules (a .n) (a .remaining) (a .control)
-    ≡ next (isHeld (a .n * a .control .slen) (a .remaining)) (behindE (a .n) (a .remaining) (a .control))
-from c =
-    let a = c .before .before .before .before .before .args in
-    from-e (a .n) (a .remaining) (a .control) (c .before .before .if1 .left) (omega arith)
+  abbrev all : Ruled
+  all = sizeRuled (start .args .n) (start .args .remaining) (start .args .control)
+
+  is-e : ruled (c .by .result) ≡ named E e passed
+  is-e = rw (c .before .held .ensures) at (c .by .ensures)
+
+  -- c) and d) pass
+  from : all ≡ named E e rest
+  from = from-e (start .args .n) (start .args .remaining) (start .args .control) (c .before .before .before .if1 .left) (omega arith)
 
 returns-3 : tie.Need-returns-3
-returns-3 c =
-    let s = c .before .before in
-    stops _ _ (s .held .ensures) (c .enum-told2 .given .1) ∙ sym (from s)
-
-corr-slots-requires : tie.Need-corr-slots-requires
-corr-slots-requires c κs = tt
+returns-3 c = let s = c .before .before in stops-by E (e s) (rest s) (is-e s) (c .enum-told2 .given .1) ∙ sym (from s)
 
 -- and e)
-behind : (c : tie.After-enum-told) → let a = c .before .before .before .before .before .before .before .args in
-    sizeRules (a .n) (a .remaining) (a .control) ≡ behindE (a .n) (a .remaining) (a .control)
-behind c = let s = c .before .before in from s ∙ goes _ _ (s .held .ensures) (c .enum-told .given .1)
+behind : (c : tie.After-enum-told) → all (c .before .before) ≡ rest (c .before .before)
+behind c = let s = c .before .before in from s ∙ goes-by E (e s) (rest s) (is-e s) (c .enum-told .given .1)
 
 -- the bound that the products need
 few : (c : tie.After-corr-slots) → c .corr-slots .result ≤ maxSlots
-few c = rw (c .corr-slots .ensures) (few-slots (c .before .before .before .before .before .before .before .before .args .n) (omega arith))
+few c =
+    rw (c .corr-slots .ensures)
+    (few-slots (c .before .before .before .before .before .before .before .before .before .args .n) (omega arith))
 
 add-held : tie.Need-add-held
 add-held c = omega (arith, few (c .before))
 
-held-requires-2 : tie.Need-held-requires-2
-held-requires-2 c κs = tt
-
 returns-4 : tie.Need-returns-4
 returns-4 c =
-    let s = c .before .before in
-    rw (behind (s .before), c .before .if3 .taken, bit-bytes, ← (s .corr-slots .ensures)) (c .held2 .ensures)
+    let t = c .before .before in
+    let s = t .before in
+    rw (c .before .held2 .ensures, s .corr-slots .ensures) at (c .by2 .ensures)
+    ∙ sym (behind (s .before) ∙ behind-g _ _ (start (s .before .before .before) .args .control) (t .if3 .taken))
 
 mul-held-2 : tie.Need-mul-held-2
 mul-held-2 c =
     let s = c .before in
-    let k = s .before .before .before .before .before .before .before .before .args .control in
+    let k = s .before .before .before .before .before .before .before .before .before .args .control in
     omega (arith, few s, mul-le-mul {n₁ = s .corr-slots .result} {m₁ = k .clen} {n₂ = maxSlots} {m₂ = 255} (few s) (omega arith))
-
-held-requires-3 : tie.Need-held-requires-3
-held-requires-3 c κs = tt
 
 returns-5 : tie.Need-returns-5
 returns-5 c =
-    let s = c .before .before in
-    rw (behind (s .before), c .before .if3 .left, ← (s .corr-slots .ensures)) (c .held3 .ensures)
+    let t = c .before .before in
+    let s = t .before in
+    rw (c .before .held3 .ensures, s .corr-slots .ensures) at (c .by3 .ensures)
+    ∙ sym (behind (s .before) ∙ behind-f _ _ (start (s .before .before .before) .args .control) (t .if3 .left))
 
 pub check-matrix-size-fits-spec : {M : Type 1} → statement M
 check-matrix-size-fits-spec =
     tie.close
     (tie.spec
-    cast-slen
-    cast-clen
-    add-if1
+    (λ c. search needs)
+    (λ c. search needs)
+    (λ c. search needs)
     returns
     returns-2
     mul-held
-    held-requires
-    enum-told
-    enum-told-2
+    (λ c κs. tt)
+    (λ c κs. tt)
+    (λ c. search needs)
+    (λ c. search needs)
     returns-3
-    corr-slots-requires
+    (λ c κs. tt)
     add-held
-    held-requires-2
+    (λ c κs. tt)
+    (λ c κs. tt)
     returns-4
     mul-held-2
-    held-requires-3
+    (λ c κs. tt)
+    (λ c κs. tt)
     returns-5)

@@ -4,13 +4,13 @@ use mathlib.Core.Path.{_≡_, sym, ap, _∙_}
 use mathlib.Core.List.{List}
 use Prim.Native.Nat.{ℕ}
 use borrow.Author.Needs.{needs}
-use Rattle.answers.specs.Listed.{checked}
 use Rattle.answers.proofs.OneToOne.{refused-not-done}
 use Rattle.layout.specs.declared.header.Header.the-variants.{Open}
 use Rattle.layout.specs.declared.size.Peek.the-variants.{Size}
 use Rattle.layout.specs.Header.{headerOf}
 use Rattle.layout.specs.Size.{fitRules}
-use Rattle.layout.proofs.Peek.{opened, body-within, fit-is, not-open}
+use Rattle.layout.specs.Ruled.{ruled, unnamed}
+use Rattle.layout.proofs.Peek.{peek-unopened, opened, body-within, fit-is, not-open}
 use Rattle.layout.proofs.size.peek_matrix_size.Statement.{statement}
 use Rattle.layout.proofs.size.peek_matrix_size.Tie as tie
 
@@ -35,7 +35,9 @@ enum-known-header : tie.Need-enum-known-header
 enum-known-header c = search needs
 
 returns-2 : tie.Need-returns-2
-returns-2 c = let h = c .before .header-behind in simp (rw (h .ensures) at (not-open (h .result) (c .match2 .keys2)))
+returns-2 c =
+    let h = c .before .header-behind in
+    peek-unopened (c .before .before .before .before .before .before .before .args .bytes .now) (rw (h .ensures) at (not-open (h .result) (c .match2 .keys2)))
 
 abbrev bytes-of : tie.After-header → List ℕ
 bytes-of c = c .before .before .before .before .before .before .before .before .args .bytes .now
@@ -57,11 +59,14 @@ enum-told-3 : tie.Need-enum-told-3
 enum-told-3 c = search needs
 
 -- the check answers as rules a) to g) do
-checks : (c : tie.After-check-matrix-size-fits) → checked (c .check-matrix-size-fits .result) ≡ fitRules (bytes-of (c .before .before))
-checks c = let h = c .before .before in c .check-matrix-size-fits .ensures ∙ sym (fit-is (bytes-of h) (read h))
+checks : (c : tie.After-check-matrix-size-fits)
+    → unnamed (ruled (c .check-matrix-size-fits .result)) ≡ fitRules (bytes-of (c .before .before))
+checks c =
+    let h = c .before .before in
+    ap unnamed (c .check-matrix-size-fits .ensures ∙ sym (fit-is (bytes-of h) (read h)))
 
 returns-3 : tie.Need-returns-3
-returns-3 c = rw (← (checks (c .before .before)), c .enum-told3 .given .1, refused-not-done (c .enum-told3 .given .0 .0))
+returns-3 c = rw (← (checks (c .before .before)), c .enum-told3 .given .1, refused-not-done (c .enum-told3 .given .0 .1 .0))
 
 returns-4 : tie.Need-returns-4
 returns-4 c =

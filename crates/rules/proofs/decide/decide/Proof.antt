@@ -2,10 +2,9 @@
 -- Assumes nothing.
 use mathlib.Core.Path.{_≡_, sym, ap}
 use borrow.Author.Needs.{needs}
-use Rattle.answers.specs.Outcome.{found}
 use Rattle.answers.specs.Table.{Answer}
-use Rattle.layout.specs.Size.{fitRules}
-use Rattle.elements.specs.Listed.{verdict}
+use Rattle.layout.specs.Size.{fitRuled}
+use Rattle.elements.specs.Listed.{pack, verdict}
 use Rattle.elements.proofs.Opened.{opened-placed}
 use Rattle.deviations.specs.Range.{lentRule}
 use Rattle.rules.proofs.Verdict.{first, early, later, all-pass}
@@ -42,7 +41,7 @@ enum-known-places : tie.Need-enum-known-places
 enum-known-places c = search needs
 
 -- the pack that was opened
-was-open : (c : tie.After-known-told3) → let b = c .before .before .before .before .before .before .before .before .args .bytes .now in found (c .before .places .given .0 .0) ≡ verdict b (fitRules b)
+was-open : (c : tie.After-known-told3) → let b = c .before .before .before .before .before .before .before .before .args .bytes .now in pack (c .before .places .given .0 .0) ≡ verdict b (fitRuled b)
 was-open c = rw (c .before .places .given .1) at (c .before .before .before .open-pack .ensures)
 
 deviation-form-requires : tie.Need-deviation-form-requires
@@ -61,7 +60,8 @@ returns-2 c =
     let p = w .before .before in
     let t = p .before .before .before .before in
     let a = t .before .before .before .before .args in
-    later (a .range) (a .bytes .now) (lent t) (was-open p) (e .0 .0) (rw (e .1, w .before .deviation-form .ensures) at (w .elements-whole .ensures))
+    later (a .range) (a .bytes .now) (lent t) (was-open p) (e .0 .1 .0)
+    (rw (e .1, w .before .deviation-form .ensures) at (w .elements-whole .ensures))
 
 enum-told-2 : tie.Need-enum-told-2
 enum-told-2 c = search needs
@@ -71,7 +71,7 @@ returns-3 c =
     let e = c .before .refusal2 .given in
     let o = c .before .before .before in
     let a = o .before .before .before .before .before .args in
-    early (a .range) (a .bytes .now) (lent (o .before)) (e .0 .0) (rw (e .1) at (o .open-pack .ensures))
+    early (a .range) (a .bytes .now) (lent (o .before)) (e .0 .1 .0) (rw (e .1) at (o .open-pack .ensures))
 
 returns-4 : tie.Need-returns-4
 returns-4 c =
@@ -79,7 +79,8 @@ returns-4 c =
     let p = w .before .before in
     let t = p .before .before .before .before in
     let a = t .before .before .before .before .args in
-    all-pass (a .range) (a .bytes .now) (lent t) (was-open p) _ (w .before .deviation-form .ensures) (sym (rw (c .enum-told2 .given .1, w .before .deviation-form .ensures) at (w .elements-whole .ensures)))
+    all-pass (a .range) (a .bytes .now) (lent t) (was-open p) _ (w .before .deviation-form .ensures)
+    (rw (c .enum-told2 .given .1, w .before .deviation-form .ensures) at (w .elements-whole .ensures))
 
 pub decide-spec : {M : Type 1} → statement M
 decide-spec =
