@@ -1,0 +1,5 @@
+pub mod Spans
+pub mod Slots
+pub mod Explained
+pub mod Found
+pub mod Joined
