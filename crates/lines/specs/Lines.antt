@@ -11,8 +11,11 @@ abbrev pub numbers : List ℕ → List ℕ
 numbers [] = []
 numbers (n ∷ ns) = named space n ++ numbers ns
 
+abbrev pub refusedText : Answer → List ℕ
+refusedText a = named (ascii "refused ") (a .number) ++ numbers (plains (a .carries))
+
 abbrev pub refusedLine : Answer → List ℕ
-refusedLine a = named (ascii "refused ") (a .number) ++ numbers (plains (a .carries)) ++ newline
+refusedLine a = refusedText a ++ newline
 
 -- ---- a pack that was read
 -- N, the deviation count and M

@@ -6,15 +6,22 @@ use text::put::put_byte;
 use text::put::put_named;
 ghost use Rattle.answers.specs.Listed.{listed};
 ghost use Rattle.text.specs.Put.{Put};
-ghost use Rattle.lines.specs.Lines.{refusedLine};
+ghost use Rattle.lines.specs.Lines.{refusedText, refusedLine};
 
 // Document 01's number and values.
-pub fn put_refusal(refusal: Refusal, at: usize, out: &mut [u8]) -> usize
-    ensures { λ r. ⌜ Put (refusedLine (listed refusal)) at (now (out .entry)) r (now (out .exit)) ⌝ }
+pub fn put_refused(refusal: Refusal, at: usize, out: &mut [u8]) -> usize
+    ensures { λ r. ⌜ Put (refusedText (listed refusal)) at (now (out .entry)) r (now (out .exit)) ⌝ }
 {
     let row = row_of(refusal);
     let values = row.values;
     let numbered = put_named(b"refused ", row.number, at, out);
-    let valued = put_values(row.count, values, numbered, out);
-    put_byte(b'\n', valued, out)
+    put_values(row.count, values, numbered, out)
+}
+
+// As a line.
+pub fn put_refusal(refusal: Refusal, at: usize, out: &mut [u8]) -> usize
+    ensures { λ r. ⌜ Put (refusedLine (listed refusal)) at (now (out .entry)) r (now (out .exit)) ⌝ }
+{
+    let said = put_refused(refusal, at, out);
+    put_byte(b'\n', said, out)
 }

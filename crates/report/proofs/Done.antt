@@ -34,8 +34,10 @@ use Rattle.reader.specs.declared.read.ReadAnswer.{ReadAnswer}
 use Rattle.reader.specs.declared.read.ReadAnswer.the-variants.{Done, Refused}
 use Rattle.reader.proofs.Whole.{Meets}
 use Rattle.lines.specs.Lines.{refusedLine}
+use Rattle.lines.specs.Printed.{printAnswer}
+use Rattle.lines.proofs.Printed.{print-within}
 use Rattle.report.specs.Lines.{Held, heldLines}
-use Rattle.report.specs.Printed.{maxBytes, maxRows, maxSlots, room, isLarge, isTooBig, answerLines, readLines, printed, printAnswer}
+use Rattle.report.specs.Printed.{maxBytes, maxRows, maxSlots, room, isLarge, isTooBig, answerLines, readLines, printed}
 use Rattle.report.proofs.Fits.{most-slots, pack-fits, few-read, refused-fits}
 
 -- ---- an answer that is done
@@ -74,12 +76,14 @@ flags b n k =
     (λ h. rw (List·getD-eq-default (tab n (λ j. pick (b j) 1 0)) 0 {n = k} (rw (length-tab n (λ j. pick (b j) 1 0)) (omega arith))) (omega arith))
 
 module _ (bytes : List ℕ) (ok : isTooBig bytes ≡ false) where
+  -- peek gives the rows of a pack whose size fits
+  pub small-rows : fitRules bytes .number ≡ 0 → matrixSize bytes ≤ maxRows
+  small-rows f = ltb-false maxRows (matrixSize bytes) (rw f at (second (ltb maxBytes (length bytes)) (isLarge (peeked bytes)) ok))
+
   -- the limit of rows bounds every count
   module _ (z : answered bytes .number ≡ 0) where
     few-rows : matrixSize bytes ≤ maxRows
-    few-rows =
-        let f = next-zero (fitRules bytes) (fromElements bytes) z .0 in
-        ltb-false maxRows (matrixSize bytes) (rw f at (second (ltb maxBytes (length bytes)) (isLarge (peeked bytes)) ok))
+    few-rows = small-rows (next-zero (fitRules bytes) (fromElements bytes) z .0)
 
     few-deviations : deviationCount (headOf bytes) ≤ maxRows
     few-deviations = picked (λ (d : ℕ). d ≤ maxRows) (eqb (headOf bytes .control .slen) 0) 0 (matrixSize bytes) (λ _. omega arith) (λ _. few-rows)
@@ -102,11 +106,8 @@ unfolding printed
 printed-fits bytes = picked (λ (t : List ℕ). length t ≤ room) (isTooBig bytes) _ _ (λ _. omega arith) (λ f. read-fits bytes f)
 
 -- the length that is answered is within the room
-pub done-within : (bytes : List ℕ) (got : ℕ) {k : ℕ} → written (written-as.Done k) ≡ printAnswer bytes got → k ≤ room
-done-within bytes got {k} =
-    picked (λ (a : Answer). written (written-as.Done k) ≡ a → k ≤ room) (ltb got room) _ _
-    (λ _ e. let z : _≡_ {A = ℕ} 0 5 = ap (λ (a : Answer). a .number) e in absurd (omega arith))
-    (λ _ e. let c = ap (λ (a : Answer). a .carries) e in let h : k ≡ length (printed bytes) = cc in omega (arith, printed-fits bytes))
+pub done-within : (bytes : List ℕ) (got : ℕ) {k : ℕ} → written (written-as.Done k) ≡ printAnswer room (printed bytes) got → k ≤ room
+done-within bytes got = print-within room (printed bytes) got (printed-fits bytes)
 
 -- ---- what stands at the front of lent memory after an answer that is done
 left-front : (front lent : List ℕ) (a : Answer) {l : List ℕ} {k : ℕ} → a .number ≡ 0 → l ≡ leaves a front lent → k ≡ length front → take k l ≡ front

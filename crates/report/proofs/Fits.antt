@@ -2,28 +2,32 @@
 -- Assumes nothing.
 use mathlib.Core.Path.{_≡_, refl, sym, ap, _∙_}
 use mathlib.Core.Bool.{Bool}
-use mathlib.Core.List.{List, [], _∷_, _++_}
+use mathlib.Core.List.{List, _++_}
 use Prim.Native.Nat.{ℕ, zero, suc, _+_, _-_, _*_, _≤_, _<_}
 use native.Mathlib.Numerals.{add-one}
 use native.Mathlib.Omega.{arith}
 use lib.Dec.{T, leb, leb→le}
 use lib.ListN.{length, getD, length-append}
 use Rattle.answers.specs.Lent.{joined}
-use Rattle.answers.specs.Table.{Entry, Answer, answer, pick, plains}
+use Rattle.answers.specs.Table.{Entry, Answer, answer, pick}
 use Rattle.answers.proofs.Joined.{joined-le}
 use Rattle.answers.proofs.Rules.{picked}
 use Rattle.layout.specs.declared.header.Header.{Header}
 use Rattle.layout.specs.declared.header.Header.the-variants.{Open, Unreadable, Short}
 use Rattle.layout.specs.Header.{headerRefusal}
 use Rattle.layout.specs.Triangle.{slotsOf, slotOf}
+use Rattle.layout.proofs.Peek.{fit-answers, size-answers}
 use Rattle.layout.proofs.RowByRow.{row-next, row-within, slots-mono}
+use Rattle.elements.specs.Elements.{headOf}
+use Rattle.deviations.specs.declared.form.DeviationRange.the-variants.{Unknown}
 use Rattle.reader.specs.Rules.{readAnswer}
 use Rattle.rules.specs.Rules.{inTurn}
-use Rattle.lines.specs.Lines.{numbers, refusedLine, nLine, sLine, cLine, deviationLines}
+use Rattle.rules.proofs.Named.{element-answers}
+use Rattle.lines.specs.Lines.{refusedText, refusedLine, nLine, sLine, cLine, deviationLines}
+use Rattle.lines.proofs.Fits.{Few, refused-length}
 use Rattle.report.specs.Lines.{rowLines, slotLines, packLines}
 use Rattle.report.specs.Printed.{maxRows, maxSlots, room}
-use Rattle.text.specs.Text.{decimal, named, space}
-use Rattle.text.proofs.Figures.{length-decimal, longest-decimal, length-hex}
+use Rattle.text.proofs.Figures.{length-decimal, length-hex}
 
 -- ---- the lines of a pack of few rows
 n-length : (n d m : ℕ) → n < 100 → d < 100 → m < 10000 → length (nLine n d m) ≤ 30
@@ -75,24 +79,9 @@ pack-fits n ds cs ps few rows slots flags =
     )
 
 -- ---- a refusal
--- each number takes a space and at most 20 digits
-numbers-length : (ns : List ℕ) → length (numbers ns) ≤ 21 * length ns
-numbers-length [] = omega arith
-numbers-length (n ∷ ns) = omega (arith, numbers-length ns, length-append (named space n) (numbers ns), length-append space (decimal n), longest-decimal n)
-
--- an answer that carries at most three numbers
-pub record Few (a : Answer) : Type 0 where
-  pub most : length (a .carries) ≤ 3
-
--- as many numbers as entries
-length-plains : (es : List Entry) → length (plains es) ≡ length es
-length-plains [] = refl
-length-plains (e ∷ es) = ap suc (length-plains es)
-
 -- its line fits
 pub refused-fits : (a : Answer) → Few a → length (refusedLine a) ≤ room
-refused-fits a f =
-    simp length-append (omega (arith, numbers-length (plains (a .carries)), length-plains (a .carries), f .most, longest-decimal (a .number)))
+refused-fits a f = rw (length-append (refusedText a)) (omega (arith, refused-length a f))
 
 -- every rule of the reader's order has such an answer
 few-answer : (m : ℕ) (es : List Entry) → T (leb (length es) 3) → Few (answer m es)
@@ -112,4 +101,6 @@ few-turns bytes at size format f (suc n) = let q = few-turns bytes at size forma
 
 -- and so is the reader's, whatever it is
 pub few-read : (bytes : List ℕ) (ds cs ps : ℕ) → Few (readAnswer bytes ds cs ps)
-few-read bytes ds cs ps = search (few-answer, few-pick, few-head, few-turns) depth 20
+few-read bytes ds cs ps =
+    rw (fit-answers bytes, size-answers, element-answers Unknown bytes (headOf bytes))
+    (search (few-answer, few-pick, few-head, few-turns) depth 20)

@@ -1,10 +1,10 @@
 -- Document 01, "The program": which lines are printed for which input.
 use Prim.Native.Nat.{ℕ}
 use mathlib.Core.Bool.{Bool, false, _||_}
-use mathlib.Core.List.{List, [], _∷_}
+use mathlib.Core.List.{List}
 use lib.Dec.{eqb, ltb}
 use lib.ListN.{length}
-use Rattle.answers.specs.Table.{Answer, answer, wholes, pick}
+use Rattle.answers.specs.Table.{Answer, pick}
 use Rattle.layout.specs.declared.size.Peek.{Peek}
 use Rattle.layout.specs.declared.size.Peek.the-variants.{Size, Nothing}
 use Rattle.layout.specs.Header.{matrixSize}
@@ -51,8 +51,3 @@ module _ (bytes : List ℕ) where
 -- the room that is asked for, whatever is printed
 abbrev pub room : ℕ
 room = 65536
-
--- less room: 5; otherwise done, with the text's length
-abbrev pub printAnswer : List ℕ → ℕ → Answer
-printAnswer bytes got =
-    pick (ltb got room) (answer 5 (wholes (room ∷ got ∷ []))) (answer 0 (wholes (length (printed bytes) ∷ [])))

@@ -14,7 +14,8 @@ ghost use lib.ListN.{length};
 ghost use Rattle.answers.specs.Listed.{written};
 ghost use Rattle.answers.specs.Lent.{leaves};
 ghost use Rattle.text.specs.Put.{Put};
-ghost use Rattle.report.specs.Printed.{isTooBig, readLines, printed, printAnswer};
+ghost use Rattle.lines.specs.Printed.{printAnswer};
+ghost use Rattle.report.specs.Printed.{isTooBig, readLines, printed, room};
 
 // The most that is read: so many bytes, and so many rows with their slots.
 const MAX_BYTES: usize = 20_480;
@@ -26,7 +27,8 @@ const MAX_SLOTS: usize = 2016;
 // Any text fits.
 const ROOM: usize = 65_536;
 
-fn is_too_big(bytes: &[u8]) -> bool
+// The bounds of the programs that print a pack.
+pub fn is_too_big(bytes: &[u8]) -> bool
     ensures { λ r. ⌜ r ≡ isTooBig (now (bytes .entry)) ⌝ }
 {
     if MAX_BYTES < bytes.len() {
@@ -84,7 +86,7 @@ fn put_printed(bytes: &[u8], out: &mut [u8]) -> usize
 
 // What is printed for the pack that the bytes are, over the front of `out`.
 pub fn print_pack(bytes: &[u8], out: &mut [u8]) -> Written
-    ensures { λ r. ⌜ (written r ≡ printAnswer (now (bytes .entry)) (length (now (out .entry))))
+    ensures { λ r. ⌜ (written r ≡ printAnswer room (printed (now (bytes .entry))) (length (now (out .entry))))
         × (now (out .exit) ≡ leaves (written r) (printed (now (bytes .entry))) (now (out .entry))) ⌝ }
 {
     if out.len() < ROOM {

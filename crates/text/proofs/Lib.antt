@@ -1,6 +1,7 @@
 pub mod Order
 pub mod Pieces
 pub mod Figures
+pub mod Forms
 pub mod Line
 pub mod Marked
 pub mod Entered

@@ -1,7 +1,7 @@
 -- Laws of text that is put piece by piece.
 -- Assumes nothing.
 use mathlib.Core.Path.{_≡_, refl, sym, ap, _∙_}
-use mathlib.Core.List.{List, [], _∷_, _++_}
+use mathlib.Core.List.{List, [], _∷_, _++_, append-nil}
 use mathlib.Core.Logic.{⊎-elim}
 use Prim.Native.Nat.{ℕ, zero, suc, _+_, _≤_, _<_, min}
 use native.Mathlib.Nat.{add-zero}
@@ -42,6 +42,10 @@ module _ {x : List ℕ} {at : ℕ} {l : List ℕ} {r : ℕ} {m : List ℕ} (p : 
         behind = rw length-append (omega (arith, p .behind, q .behind, put-long));
         stored = q .stored ∙ rw (p .behind, ← put-long, sets-min, p .stored, sets-more);
       }
+
+  -- nothing more
+  pub put-end : Put (x ++ []) at l r m
+  put-end = rw append-nil p
 
   -- where there is room, the text is put whole
   pub put-whole : at + length x ≤ length l → r ≡ at + length x

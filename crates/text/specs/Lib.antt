@@ -4,3 +4,4 @@ pub mod Numeral
 pub mod Marks
 pub mod Entries
 pub mod Strings
+pub mod Forms

@@ -1,30 +1,14 @@
--- `refusal::put_refusal` meets its contract: the row holds what the refusal lists.
+-- `refusal::put_refusal` meets its contract.
 -- Assumes nothing.
-use mathlib.Core.Path.{refl}
 use borrow.Author.Needs.{needs}
 use Rattle.text.proofs.Pieces.{put-then}
-use Rattle.lines.proofs.Numbers.{row-values}
 use Rattle.lines.proofs.refusal.put_refusal.Statement.{statement}
 use Rattle.lines.proofs.refusal.put_refusal.Tie as tie
 
 returns : tie.Need-returns
 returns c =
     let w = c .before .before in
-    let v = w .before .before .before .before in
-    let u = v .before .before .before .before in
-    let s = u .before .before .before .before in
-    let r = s .before .before .args .refusal in
-    rw (s .row-of .ensures, row-values r)
-    at (put-then (put-then (u .put-named .ensures) (v .put-values .ensures)) (w .put-byte .ensures))
+    put-then (w .before .before .before .before .put-refused .ensures) (w .put-byte .ensures)
 
 pub put-refusal-spec : {M : Type 1} → statement M
-put-refusal-spec =
-    tie.close
-    (tie.spec
-    (λ c κs. tt)
-    (λ c. refl)
-    (λ c κs. tt)
-    (λ c κs. tt)
-    (λ c κs. tt)
-    (λ c. search needs)
-    returns)
+put-refusal-spec = tie.close (tie.spec (λ c κs. tt) (λ c κs. tt) (λ c. search needs) returns)

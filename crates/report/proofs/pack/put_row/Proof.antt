@@ -8,7 +8,7 @@ use Rattle.answers.specs.Lent.{joined}
 use Rattle.layout.specs.Triangle.{slotsOf}
 use Rattle.text.proofs.Pieces.{Puts, puts-none, puts-more, puts-done, put-long}
 use Rattle.report.specs.Lines.{slotLine}
-use Rattle.report.proofs.Slots.{Along, along-none, none-passed, along-more, one-more, the-next, passed-below, slot-at, slot-below}
+use Rattle.layout.proofs.Along.{Along, along-none, none-passed, along-more, one-more, the-next, passed-below, slot-at, slot-below}
 use Rattle.report.proofs.pack.put_row.Statement.{statement}
 use Rattle.report.proofs.pack.put_row.Tie as tie
 

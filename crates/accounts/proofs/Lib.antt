@@ -1,0 +1,3 @@
+pub mod Told
+pub mod Fits
+pub mod OneAnswer

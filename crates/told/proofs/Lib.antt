@@ -1,0 +1,4 @@
+pub mod Refused
+pub mod Fits
+pub mod Stored
+pub mod OneAnswer

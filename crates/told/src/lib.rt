@@ -1,0 +1,2 @@
+//! Which bytes the program `why` prints for which input.
+pub mod print;
