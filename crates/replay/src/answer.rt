@@ -4,12 +4,14 @@ use crate::prints::put_print;
 use crate::ranged::mapped_in;
 use crate::reads::put_read;
 use crate::writes::put_write;
+use accounts::account::put_account;
 use imapb::decode::decode_imapb;
 use layout::size::peek_matrix_size;
 use numbers::ber_oid::read_ber_oid;
 use replies::forms::BAD_REQUEST;
 use replies::forms::MAPPED_IN;
 use replies::forms::READ_IN;
+use replies::forms::WHY;
 use replies::mapped::of_mapped;
 use replies::numeric;
 use replies::numeric::of_oid;
@@ -47,6 +49,7 @@ fn answer_given(
     match form {
         7 => put_print(given, at, out),
         8 | READ_IN => put_read(request, given, lists, at, out),
+        WHY => put_account(false, given, at, out),
         _ => put_reply(short(request, given, lists), at, out),
     }
 }

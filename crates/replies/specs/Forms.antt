@@ -32,6 +32,7 @@ forms =
     ∷ ascii "special above P, N R"
     ∷ ascii "mapped-in X Y N H"
     ∷ ascii "read-in X Y D E F H"
+    ∷ ascii "why H"
     ∷ ascii "bad request"
     ∷ ascii "refused A"
     ∷ ascii "refused A B"

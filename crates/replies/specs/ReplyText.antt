@@ -1,10 +1,11 @@
 -- A reply as text.
 use Prim.Native.Nat.{ℕ}
 use mathlib.Core.Bool.{Bool, _&&_, _||_}
-use mathlib.Core.List.{List, [], _∷_, _++_}
+use mathlib.Core.List.{List, [], _∷_}
 use lib.Dec.{eqb, leb, ltb}
 use Rattle.answers.specs.Table.{pick}
 use Rattle.text.specs.Text.{figures, decimal}
+use Rattle.text.specs.Forms.{spread}
 use Rattle.replies.specs.declared.reply.Reply.{Reply}
 use Rattle.replies.specs.Forms.{formOf, isField}
 
@@ -27,14 +28,12 @@ valueText letter value =
 abbrev pub letterText : ℕ → ℕ → List ℕ
 letterText letter value = pick (isField letter) (valueText letter value) (letter ∷ [])
 
+abbrev pub textOf : Reply → ℕ → List ℕ
+textOf r letter = letterText letter (valueOf r letter)
+
 -- a comma; a dot stands past the end
 unfoldable pub isEnd : ℕ → Bool
 isEnd letter = eqb letter 0x2c || eqb letter 0x2e
 
--- the letters of a form, up to its end
-abbrev pub filled : Reply → List ℕ → List ℕ
-filled r [] = []
-filled r (l ∷ ls) = pick (isEnd l) [] (letterText l (valueOf r l) ++ filled r ls)
-
 abbrev pub replyText : Reply → List ℕ
-replyText r = filled r (formOf (r .form))
+replyText r = spread isEnd (textOf r) (formOf (r .form))

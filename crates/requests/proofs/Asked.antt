@@ -42,7 +42,7 @@ module _ {line₀ words₀ : List ℕ} {form : ℕ} where
       one-left : 24 - i ≡ suc (24 - (i + 1))
       one-left = omega arith
 
-      pub reading-bad : {r′ : Request} → n ≡ Malformed → r′ ≡ unfilled 23 → Answers line₀ words₀ r′ line′ words′
+      pub reading-bad : {r′ : Request} → n ≡ Malformed → r′ ≡ unfilled 24 → Answers line₀ words₀ r′ line′ words′
       reading-bad q u = answers line₀ words₀ (rw (f .1 .0, f .1 .1, u) (rw (one-left, ← e, sym (f .0) ∙ q) at (p .rest)))
 
       pub reading-more : {value next : ℕ} {r′ : Request} → n ≡ Read value next → r′ ≡ with l value r

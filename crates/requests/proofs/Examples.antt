@@ -26,7 +26,7 @@ read-in = refl
 
 -- a word too many, a room that is larger than there is, and no byte string where one is asked for
 abbrev bad : List ℕ → Type 0
-bad line = requestOf line [] ≡ unfilled 23
+bad line = requestOf line [] ≡ unfilled 24
 
 pub refused-requests : bad (ascii "peek 01 ") × bad (ascii "map 2 600001 3FF0000000000000") × bad (ascii "peek ")
 unfolding worth forms most numberAt listOf wordsOf fieldAt lineAfter wordsAfter with askedBy

@@ -20,6 +20,6 @@ abbrev pub firstFrom : ℕ → ℕ → List ℕ → ℕ
 firstFrom zero form line = form
 firstFrom (suc left) form line = pick (beginsAs form line) form (firstFrom left (form + 1) line)
 
--- the requests are the first 23 forms, and the next is a bad request
+-- the requests are the first 24 forms, and the next is a bad request
 abbrev pub formOf : List ℕ → ℕ
-formOf line = firstFrom 23 0 line
+formOf line = firstFrom 24 0 line

@@ -38,7 +38,7 @@ abbrev pub asked : Request → List ℕ → List ℕ → Asked
 asked r line words = record { request = r; line = line; words = words }
 
 -- the letters of a form that are left of its 24, each read where the one before it ended; one that can't be read makes
--- a bad request, form 23
+-- a bad request, form 24
 abbrev pub askedFrom : ℕ → ℕ → ℕ → Request → List ℕ → ℕ → List ℕ → Asked
 askedFrom zero form i r line at words = asked r line words
 askedFrom (suc left) form i r line at words =
@@ -47,7 +47,7 @@ askedFrom (suc left) form i r line at words =
     let words′ : List ℕ = wordsAfter letter line at words in
     whether (fieldAt letter line at words)
     (λ value next. askedFrom left form (i + 1) (with letter value r) line′ next words′)
-    (asked (unfilled 23) line′ words′)
+    (asked (unfilled 24) line′ words′)
 
 unfoldable pub askedBy : List ℕ → List ℕ → Asked
 askedBy line words = askedFrom 24 (formOf line) 0 (unfilled (formOf line)) line 0 words

@@ -12,7 +12,7 @@ use Rattle.replies.specs.ReplyText.{replyText}
 
 -- row, bits
 abbrev pub deviationReply : ℕ → ℕ → Reply
-deviationReply row bits = reply 43 row bits 0 0
+deviationReply row bits = reply 44 row bits 0 0
 
 -- as many as there are, up to a count
 abbrev pub deviationLines : ℕ → List ℕ → List ℕ
@@ -31,7 +31,7 @@ pairAt rows (suc k) = nextPair rows (pairAt rows k)
 
 -- i, j, presence, bits
 abbrev pub slotReply : Pair → ℕ → ℕ → Reply
-slotReply p present bits = reply 44 (p .i) (p .j) present bits
+slotReply p present bits = reply 45 (p .i) (p .j) present bits
 
 abbrev pub slotLines : ℕ → ℕ → List ℕ → List ℕ → List ℕ
 slotLines rows count cs ps =

@@ -6,6 +6,6 @@ use Rattle.answers.specs.Table.{pick}
 use Rattle.replies.specs.Reply.{wordsReply}
 use Rattle.replies.specs.ReplyText.{replyText}
 
--- where lent memory was changed that was to be left, ` touched`, form 45; otherwise nothing, form 29
+-- where lent memory was changed that was to be left, ` touched`, form 46; otherwise nothing, form 30
 abbrev pub touchedText : Bool → List ℕ
-touchedText changed = replyText (wordsReply (pick changed 45 29))
+touchedText changed = replyText (wordsReply (pick changed 46 30))

@@ -6,16 +6,18 @@ use native.Mathlib.Omega.{arith}
 use mathlib.Core.Path.{sym, _∙_, ap}
 use borrow.Author.Needs.{needs}
 use lib.ListN.{drop, drop-of-length-le}
+use Rattle.text.specs.Forms.{spread}
+use Rattle.text.proofs.Forms.{spread-end, spread-more}
 use Rattle.text.proofs.Pieces.{Rest, rest-all, rest-more, rest-done}
 use Rattle.replies.specs.Forms.{formOf}
-use Rattle.replies.specs.ReplyText.{isEnd, filled, replyText}
+use Rattle.replies.specs.ReplyText.{textOf, isEnd, replyText}
 use Rattle.replies.proofs.Table.{form-short}
-use Rattle.replies.proofs.Letters.{filled-end, filled-more}
+use Rattle.replies.proofs.Letters.{dot-ends}
 use Rattle.replies.proofs.put.put_reply.Statement.{statement}
 use Rattle.replies.proofs.put.put_reply.Tie as tie
 
 abbrev Inv-loop : tie.InvT-loop
-Inv-loop reply at out₀ next₀ i₀ out next i = Rest (filled reply (drop i (formOf (reply .form)))) next out (replyText reply) at out₀
+Inv-loop reply at out₀ next₀ i₀ out next i = Rest (spread isEnd (textOf reply) (drop i (formOf (reply .form)))) next out (replyText reply) at out₀
 
 abbrev μ-loop : tie.MeasureT-loop
 μ-loop reply at out₀ next₀ i₀ out next i = 24 - i
@@ -35,7 +37,7 @@ returns c =
     let p = t .before .loop in
     let reply = t .before .before .before .before .before .args .reply in
     let done = sym (ap isEnd (e .before .letter .ensures)) ∙ sym (e .ends .ensures) ∙ c .if1 .taken in
-    rest-done (rw (filled-end reply (formOf (reply .form)) (p .i) done) at (p .inv))
+    rest-done (rw (spread-end isEnd (textOf reply) dot-ends (formOf (reply .form)) (p .i) done) at (p .inv))
 
 loop-again : tie.Need-loop-again Inv-loop μ-loop
 loop-again c =
@@ -48,7 +50,7 @@ loop-again c =
     let reply = l .before .before .before .before .before .before .args .reply in
     let more = sym (ap isEnd (l .letter .ensures)) ∙ sym (e .ends .ensures) ∙ f .if1 .left in
     rw add-one
-    (rest-more (rw (filled-more reply (formOf (reply .form)) (p .i) more) at (p .inv))
+    (rest-more (rw (spread-more isEnd (textOf reply) dot-ends (formOf (reply .form)) (p .i) more) at (p .inv))
     (rw (v .value .ensures, l .letter .ensures) at (w .put-letter .ensures)))
 
 same-length-2 : tie.Need-same-length-2 Inv-loop μ-loop

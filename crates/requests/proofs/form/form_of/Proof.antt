@@ -10,10 +10,10 @@ use Rattle.requests.proofs.form.form_of.Statement.{statement}
 use Rattle.requests.proofs.form.form_of.Tie as tie
 
 abbrev Inv-loop : tie.InvT-loop
-Inv-loop line form₀ form = (form ≤ 23) × (firstFrom (23 - form) form line ≡ formOf line)
+Inv-loop line form₀ form = (form ≤ 24) × (firstFrom (24 - form) form line ≡ formOf line)
 
 abbrev μ-loop : tie.MeasureT-loop
-μ-loop line form₀ form = 23 - form
+μ-loop line form₀ form = 24 - form
 
 returns : tie.Need-returns Inv-loop μ-loop
 returns c =
@@ -32,7 +32,7 @@ loop-again c =
 returns-2 : tie.Need-returns-2 Inv-loop μ-loop
 returns-2 c =
     let p = c .before .loop in
-    let e : p .form ≡ 23 = omega (arith, p .inv .0) in
+    let e : p .form ≡ 24 = omega (arith, p .inv .0) in
     rw e at (p .inv .1)
 
 pub form-of-spec : {M : Type 1} → statement M
