@@ -15,8 +15,11 @@ use Rattle.ranges.specs.Range.{readingIn}
 use Rattle.layout.specs.declared.control.ParseControl.{ParseControl}
 use Rattle.layout.specs.declared.header.Header.{Header}
 use Rattle.layout.specs.declared.header.Header.the-variants.{Open, Unreadable, Short}
-use Rattle.layout.specs.Header.{matrixSize, controlOf, bodyAt, headerOf, headerRefusal, headRules}
+use Rattle.layout.specs.declared.rule.Rule.{Rule}
+use Rattle.layout.specs.declared.rule.Rule.the-variants.{A, B, C, D, E, F, G, H, I, J, K}
+use Rattle.layout.specs.Header.{matrixSize, controlOf, bodyAt, headerOf, ruleA, ruleB, headerRefusal, headRules}
 use Rattle.layout.specs.Size.{fitRules, sizeRules}
+use Rattle.layout.proofs.Peek.{size-answers, fit-answers}
 use Rattle.elements.specs.Elements.{headOf, deviationsAt, deviationCount, codesAt, presentCount, endAt}
 use Rattle.elements.specs.Formats.{deviationFormat, codeFormat}
 use Rattle.elements.specs.Numbers.{elementRule}
@@ -24,7 +27,9 @@ use Rattle.deviations.specs.declared.form.DeviationRange.{DeviationRange}
 use Rattle.deviations.specs.declared.form.DeviationRange.the-variants.{Unknown, Known}
 use Rattle.deviations.specs.Range.{lentRule, valueRule, formatOver, rowPart}
 use Rattle.reader.specs.Rules.{done, readAnswerIn}
+use Rattle.rules.specs.Named.{ruleOf}
 use Rattle.rules.specs.Rules.{inTurn, codesRule, overRule, ruleH, ruleI, ruleJ, ruleK, elementRules, packRules, roomRules}
+use Rattle.rules.proofs.Named.{element-answers}
 use Rattle.elements.specs.declared.head.Head.{Head}
 use Rattle.plan.specs.Places.{packPlan}
 use Rattle.writer.specs.Pack.{packBytes}
@@ -52,7 +57,7 @@ ranges-in (c ∷ cs) = in-next (rangeRule c) (rangeRules cs) (range-in c) (range
 
 -- rules a) to g), and h) to k)
 sizes-in : (n R : ℕ) (k : ParseControl) → InTable (sizeRules n R k)
-sizes-in n R k = search table depth 20
+sizes-in n R k = rw (size-answers n R k) (search table depth 20)
 
 header-in : (h : Header) → InTable (headerRefusal h)
 header-in Unreadable = in-1 0 0
@@ -97,10 +102,34 @@ elements-in range bytes =
     let h = headOf bytes in
     let k = h .control in
     let raw : ℕ → List ℕ = rowPart bytes (deviationsAt h) k in
-    in-next (ruleH range bytes h) (next (ruleI bytes h) (next (ruleJ bytes h) (ruleK bytes h)))
+    rw (element-answers range bytes h)
+    (in-next (ruleH range bytes h) (next (ruleI bytes h) (next (ruleJ bytes h) (ruleK bytes h)))
     (turns-in bytes (deviationsAt h) (k .slen) (λ i. formatOver range k i (raw i)) (λ i. over-range-in range k i (raw i)) (deviationCount h))
     (in-next (ruleI bytes h) (next (ruleJ bytes h) (ruleK bytes h)) (codes-in k (presentCount bytes h) (length bytes - codesAt h))
-    (in-next (ruleJ bytes h) (ruleK bytes h) (turns-in bytes (codesAt h) (k .clen) (λ _. codeFormat k) (λ _. formats-in k .1) (presentCount bytes h)) (over-in (endAt bytes h) (length bytes))))
+    (in-next (ruleJ bytes h) (ruleK bytes h) (turns-in bytes (codesAt h) (k .clen) (λ _. codeFormat k) (λ _. formats-in k .1) (presentCount bytes h)) (over-in (endAt bytes h) (length bytes)))))
+
+-- each rule by its name
+header-rules-in : (h : Header) → InTable (ruleA h) × InTable (ruleB h)
+header-rules-in Unreadable = (in-1 0 0, in-done [])
+header-rules-in Short = (in-done [], in-1 1 0)
+header-rules-in (Open n control body) = (in-done [], in-done [])
+
+rules-in : (bytes : List ℕ) (x : Rule) → InTable (ruleOf bytes x)
+rules-in bytes A = header-rules-in (headerOf bytes) .0
+rules-in bytes B = header-rules-in (headerOf bytes) .1
+rules-in bytes C = search table depth 10
+rules-in bytes D = search table depth 10
+rules-in bytes E = search table depth 10
+rules-in bytes F = search table depth 10
+rules-in bytes G = search table depth 10
+rules-in bytes H =
+    let h = headOf bytes in
+    turns-in bytes (deviationsAt h) (h .control .slen) (λ _. deviationFormat (h .control)) (λ _. formats-in (h .control) .0) (deviationCount h)
+rules-in bytes I = let h = headOf bytes in codes-in (h .control) (presentCount bytes h) (length bytes - codesAt h)
+rules-in bytes J =
+    let h = headOf bytes in
+    turns-in bytes (codesAt h) (h .control .clen) (λ _. codeFormat (h .control)) (λ _. formats-in (h .control) .1) (presentCount bytes h)
+rules-in bytes K = over-in (endAt bytes (headOf bytes)) (length bytes)
 
 rooms-in : (h : Head) (d c p : ℕ) → InTable (roomRules h d c p)
 rooms-in h d c p = search table depth 20
@@ -111,7 +140,7 @@ fits-in bytes =
     let n = matrixSize bytes in
     let R = length bytes - bodyAt bytes in
     let k = controlOf bytes in
-    in-next (headRules bytes) (sizeRules n R k) (heads-in bytes) (sizes-in n R k)
+    rw (fit-answers bytes) (in-next (headRules bytes) (sizeRules n R k) (heads-in bytes) (sizes-in n R k))
 
 packs-in : (range : DeviationRange) (bytes : List ℕ) → InTable (packRules range bytes)
 packs-in range bytes =
@@ -169,5 +198,6 @@ answered =
       codes = λ L bytes. search table depth 10;
       maps-special = λ L s room. search table depth 10;
       looks-up = λ p ds cs i j. search table depth 10;
-      prints = λ bytes room. search table depth 10;
+      explains = rules-in;
+      prints = λ room text got. search table depth 10;
     }

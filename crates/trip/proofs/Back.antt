@@ -14,6 +14,7 @@ use Rattle.answers.proofs.Lent.{tab-same}
 use Rattle.layout.specs.Header.{matrixSize}
 use Rattle.layout.specs.Size.{maxRows, sizeRules, fitRules}
 use Rattle.layout.specs.Triangle.{slotsOf}
+use Rattle.layout.proofs.Peek.{fit-answers}
 use Rattle.elements.specs.Elements.{presentBefore, headOf, deviationCount}
 use Rattle.deviations.specs.declared.form.DeviationRange.the-variants.{Unknown}
 use Rattle.rules.specs.Rules.{elementRules, roomRules}
@@ -55,7 +56,7 @@ module _ (ds cs : List ℕ) (L : ℕ) (sparse : Bool) (rows : length ds ≤ maxR
   -- a) to g)
   fit-passes : fitRules bytes ≡ passes
   fit-passes =
-      rw (head .passed, head .control, head .size, head .body)
+      rw (fit-answers bytes, head .passed, head .control, head .size, head .body)
       (size-passes sparse n (length bytes - at) L rows (omega (arith, whole))
       (λ e. omega (arith, rw (e, ne-eqb L 0 (omega arith)) at whole)) (λ e. omega (arith, rw e at whole)))
 

@@ -15,6 +15,7 @@ use Rattle.layout.specs.Size.{maxRows, sizeRules, fitRules}
 use Rattle.layout.specs.declared.pack.SdccFlp.{SdccFlp}
 use Rattle.layout.specs.Triangle.{slotOf, slotsOf, IsPair}
 use Rattle.layout.proofs.Fits.{fits-tells}
+use Rattle.layout.proofs.Peek.{fit-answers}
 use Rattle.layout.proofs.RowByRow.{row-by-row}
 use Rattle.elements.specs.Elements.{headOf, deviationCount, deviations, correlations}
 use Rattle.elements.specs.Listed.{packOf}
@@ -76,8 +77,8 @@ rows-read bytes d c p e =
     let h = headOf bytes in
     let R = length bytes - bodyAt bytes in
     let fit = next-zero (fitRules bytes) (next (elementRules Unknown bytes h) (next (roomRules h d c p) (done h))) e .0 in
-    let size = next-zero (headRules bytes) (sizeRules (matrixSize bytes) R (controlOf bytes)) fit .1 in
-    fits-tells (matrixSize bytes) R (controlOf bytes) .done size .rows
+    let size = next-zero (headRules bytes) (sizeRules (matrixSize bytes) R (controlOf bytes)) (rw (fit-answers bytes) at fit) .1 in
+    fits-tells (matrixSize bytes) R (controlOf bytes) size .rows
 
 -- every cell of a pack that was read
 pub cells-read : (bytes ds₀ cs₀ ps₀ : List ℕ) → readAnswer bytes (length ds₀) (length cs₀) (length ps₀) .number ≡ 0 → CellsRead bytes ds₀ cs₀

@@ -56,7 +56,7 @@ use Rattle.ranges.proofs.range.check_range.Reads as range-check
 use Rattle.ranges.proofs.mapping.range_mapping.Reads as range-mapping
 use Rattle.ranges.proofs.decode.decode_worked_out.Reads as decode-worked-out
 use Rattle.ranges.proofs.decode.decode_imapb_in.Reads as decode-imapb-in
-use Rattle.layout.proofs.OneAnswer.{parse-mode1-one, parse-mode2-one, read-header-one, check-matrix-size-fits-one, peek-matrix-size-one, corr-slots-one, triangle-slot-one, bounded-slots-one}
+use Rattle.layout.proofs.OneAnswer.{parse-mode1-one, parse-mode2-one, read-header-one, check-matrix-size-fits-one, peek-matrix-size-one, corr-slots-one, triangle-slot-one, bounded-slots-one, by-one}
 use Rattle.layout.proofs.control.parse_mode1.Reads as parse-mode1
 use Rattle.layout.proofs.control.parse_mode2.Reads as parse-mode2
 use Rattle.layout.proofs.header.read_header.Reads as read-header
@@ -65,6 +65,7 @@ use Rattle.layout.proofs.size.peek_matrix_size.Reads as peek-matrix-size
 use Rattle.layout.proofs.triangle.corr_slots.Reads as corr-slots
 use Rattle.layout.proofs.triangle.triangle_slot.Reads as triangle-slot
 use Rattle.layout.proofs.pack.bounded_slots.Reads as bounded-slots
+use Rattle.layout.proofs.rule.by.Reads as by
 use Rattle.elements.proofs.OneAnswer.{open-pack-one, deviation-count-one, pack-of-one, left-one, check-number-one, value-bits-one, deviation-at-one, correlation-at-one, slot-at-one, presence-of-one, present-count-one}
 use Rattle.elements.proofs.head.open_pack.Reads as open-pack
 use Rattle.elements.proofs.head.deviation_count.Reads as deviation-count
@@ -81,9 +82,14 @@ use Rattle.deviations.proofs.OneAnswer.{check-deviation-range-one, deviation-fo
 use Rattle.deviations.proofs.form.check_deviation_range.Reads as check-deviation-range
 use Rattle.deviations.proofs.form.deviation_form.Reads as deviation-form
 use Rattle.deviations.proofs.number.deviation_in.Reads as deviation-in
-use Rattle.rules.proofs.OneAnswer.{decide-one, check-rooms-one}
+use Rattle.rules.proofs.OneAnswer.{decide-one, judge-one, check-rooms-one}
 use Rattle.rules.proofs.decide.decide.Reads as decide
+use Rattle.rules.proofs.judge.judge.Reads as judge
 use Rattle.rules.proofs.rooms.check_rooms.Reads as check-rooms
+use Rattle.explain.proofs.OneAnswer.{explain-one, slot-code-one, behind-one}
+use Rattle.explain.proofs.explain.explain.Reads as explain
+use Rattle.explain.proofs.slot.slot_code.Reads as slot-code
+use Rattle.explain.proofs.slot.behind.Reads as behind
 use Rattle.reader.proofs.OneAnswer.{decode-sdcc-flp-one, decode-sdcc-flp-in-one}
 use Rattle.reader.proofs.read.decode_sdcc_flp.Reads as decode-sdcc-flp
 use Rattle.reader.proofs.read.decode_sdcc_flp_in.Reads as decode-sdcc-flp-in
@@ -98,13 +104,25 @@ use Rattle.writer.proofs.write.encode_sdcc_flp.Reads as encode-sdcc-flp
 use Rattle.matrix.proofs.OneAnswer.{correlation-one, usable-one}
 use Rattle.matrix.proofs.lookup.correlation.Reads as correlation
 use Rattle.matrix.proofs.usable.usable.Reads as usable
-use Rattle.lines.proofs.OneAnswer.{put-values-one, put-refusal-one, put-counts-one, put-line-one, put-rows-one}
+use Rattle.lines.proofs.OneAnswer.{put-values-one, put-refused-one, put-refusal-one, put-counts-one, put-line-one, put-rows-one}
 use Rattle.lines.proofs.values.put_values.Reads as put-values
+use Rattle.lines.proofs.refusal.put_refused.Reads as put-refused
 use Rattle.lines.proofs.refusal.put_refusal.Reads as put-refusal
 use Rattle.lines.proofs.line.put_counts.Reads as put-counts
 use Rattle.lines.proofs.line.put_line.Reads as put-line
 use Rattle.lines.proofs.line.put_rows.Reads as put-rows
-use Rattle.report.proofs.OneAnswer.{print-pack-one}
+use Rattle.reasons.proofs.OneAnswer.{put-reason-one}
+use Rattle.reasons.proofs.reason.put_reason.Reads as put-reason
+use Rattle.parts.proofs.OneAnswer.{put-gap-one, put-elements-one, put-slot-one}
+use Rattle.parts.proofs.element.put_gap.Reads as put-gap
+use Rattle.parts.proofs.element.put_elements.Reads as put-elements
+use Rattle.parts.proofs.slot.put_slot.Reads as put-slot
+use Rattle.accounts.proofs.OneAnswer.{put-account-one}
+use Rattle.accounts.proofs.account.put_account.Reads as put-account
+use Rattle.told.proofs.OneAnswer.{print-why-one}
+use Rattle.told.proofs.print.print_why.Reads as print-why
+use Rattle.report.proofs.OneAnswer.{is-too-big-one, print-pack-one}
+use Rattle.report.proofs.print.is_too_big.Reads as is-too-big
 use Rattle.report.proofs.print.print_pack.Reads as print-pack
 use Rattle.replies.proofs.OneAnswer.{letter-one, is-field-one, one-one, words-one, refused-one, special-of-one, special-one, of-mapped-one, widen-one, narrow-one, float-of-one, of-oid-one, of-written-one, of-peek-one, of-read-one, of-cell-one, of-usable-one, put-reply-one}
 use Rattle.replies.proofs.forms.letter.Reads as letter
@@ -197,6 +215,7 @@ pub record Determined : Type 0 where
   pub corr-slots-determined : OneResult corr-slots.Learnt
   pub triangle-slot-determined : OneResult triangle-slot.Learnt
   pub bounded-slots-determined : OneResult bounded-slots.Learnt
+  pub by-determined : OneResult by.Learnt
   -- the elements of a pack
   pub open-pack-determined : OneResult open-pack.Learnt
   pub deviation-count-determined : OneResult deviation-count.Learnt
@@ -215,7 +234,12 @@ pub record Determined : Type 0 where
   pub deviation-in-determined : OneResult deviation-in.Learnt
   -- the rules
   pub decide-determined : OneResult decide.Learnt
+  pub judge-determined : OneResult judge.Learnt
   pub check-rooms-determined : OneResult check-rooms.Learnt
+  -- why a pack is refused, and its places
+  pub explain-determined : OneResult explain.Learnt
+  pub slot-code-determined : OneResult slot-code.Learnt
+  pub behind-determined : OneResult behind.Learnt
   -- the reader
   pub decode-sdcc-flp-determined : OneAnswer {L = List ℕ × List ℕ × List ℕ} decode-sdcc-flp.Learnt (λ κs s. (now (s .1 .0), now (s .1 .1 .0), now (s .1 .1 .1 .0)))
   pub decode-sdcc-flp-in-determined : OneAnswer {L = List ℕ × List ℕ × List ℕ} decode-sdcc-flp-in.Learnt (λ κs s. (now (s .1 .1 .1 .0), now (s .1 .1 .1 .1 .0), now (s .1 .1 .1 .1 .1 .0)))
@@ -228,13 +252,21 @@ pub record Determined : Type 0 where
   -- lookup and usable
   pub correlation-determined : OneResult correlation.Learnt
   pub usable-determined : OneResult usable.Learnt
-  -- what the program prints
+  -- what the programs print
   pub put-values-determined : OneAnswer put-values.Learnt (λ κs s. now (s .1 .1 .1 .0))
+  pub put-refused-determined : OneAnswer put-refused.Learnt (λ κs s. now (s .1 .1 .0))
   pub put-refusal-determined : OneAnswer put-refusal.Learnt (λ κs s. now (s .1 .1 .0))
   pub put-counts-determined : OneAnswer put-counts.Learnt (λ κs s. now (s .1 .1 .1 .1 .0))
   pub put-line-determined : OneAnswer put-line.Learnt (λ κs s. now (s .1 .1 .1 .1 .1 .0))
   pub put-rows-determined : OneAnswer put-rows.Learnt (λ κs s. now (s .1 .1 .0))
+  pub is-too-big-determined : OneResult is-too-big.Learnt
   pub print-pack-determined : OneAnswer print-pack.Learnt (λ κs s. now (s .1 .0))
+  pub put-reason-determined : OneAnswer put-reason.Learnt (λ κs s. now (s .1 .1 .1 .1 .1 .1 .0))
+  pub put-gap-determined : OneAnswer put-gap.Learnt (λ κs s. now (s .1 .1 .0))
+  pub put-elements-determined : OneAnswer put-elements.Learnt (λ κs s. now (s .1 .1 .1 .0))
+  pub put-slot-determined : OneAnswer put-slot.Learnt (λ κs s. now (s .1 .1 .1 .1 .1 .1 .0))
+  pub put-account-determined : OneAnswer put-account.Learnt (λ κs s. now (s .1 .1 .1 .0))
+  pub print-why-determined : OneAnswer print-why.Learnt (λ κs s. now (s .1 .0))
   -- what replay is asked, and what it answers
   pub read-request-determined : OneAnswer {L = List ℕ × List ℕ} read-request.Learnt (λ κs s. (now (s .0), now (s .1 .0)))
   pub letter-determined : OneResult letter.Learnt
@@ -320,6 +352,7 @@ determined =
       corr-slots-determined = corr-slots-one;
       triangle-slot-determined = triangle-slot-one;
       bounded-slots-determined = bounded-slots-one;
+      by-determined = by-one;
       open-pack-determined = open-pack-one;
       deviation-count-determined = deviation-count-one;
       pack-of-determined = pack-of-one;
@@ -335,7 +368,11 @@ determined =
       deviation-form-determined = deviation-form-one;
       deviation-in-determined = deviation-in-one;
       decide-determined = decide-one;
+      judge-determined = judge-one;
       check-rooms-determined = check-rooms-one;
+      explain-determined = explain-one;
+      slot-code-determined = slot-code-one;
+      behind-determined = behind-one;
       decode-sdcc-flp-determined = decode-sdcc-flp-one;
       decode-sdcc-flp-in-determined = decode-sdcc-flp-in-one;
       plan-pack-determined = plan-pack-one;
@@ -346,11 +383,19 @@ determined =
       correlation-determined = correlation-one;
       usable-determined = usable-one;
       put-values-determined = put-values-one;
+      put-refused-determined = put-refused-one;
       put-refusal-determined = put-refusal-one;
       put-counts-determined = put-counts-one;
       put-line-determined = put-line-one;
       put-rows-determined = put-rows-one;
+      is-too-big-determined = is-too-big-one;
       print-pack-determined = print-pack-one;
+      put-reason-determined = put-reason-one;
+      put-gap-determined = put-gap-one;
+      put-elements-determined = put-elements-one;
+      put-slot-determined = put-slot-one;
+      put-account-determined = put-account-one;
+      print-why-determined = print-why-one;
       read-request-determined = read-request-one;
       letter-determined = letter-one;
       is-field-determined = is-field-one;

@@ -15,5 +15,6 @@ pub mod Tripped
 pub mod Cells
 pub mod OneAnswer
 pub mod Answered
+pub mod Told
 pub mod Determined
 pub mod Demand1

@@ -7,11 +7,13 @@ use Rattle.imapb.specs.Tables.{lengthRule, codeRules, rangeRule, imapbWritten, 
 use Rattle.imapb.specs.declared.special.ImapbSpecial.{ImapbSpecial}
 use Rattle.ranges.specs.Tables as ranges
 use Rattle.layout.specs.declared.control.ParseControl.{ParseControl}
+use Rattle.layout.specs.declared.rule.Rule.{Rule}
 use Rattle.layout.specs.Header.{headRules}
 use Rattle.layout.specs.Size.{sizeRules, fitRules}
 use Rattle.elements.specs.declared.head.Head.{Head}
 use Rattle.deviations.specs.declared.form.DeviationRange.{DeviationRange}
 use Rattle.deviations.specs.Range.{lentRule}
+use Rattle.rules.specs.Named.{ruleOf}
 use Rattle.rules.specs.Rules.{packRules, roomRules}
 use Rattle.plan.specs.Rules.{planRules}
 use Rattle.slots.specs.Rules.{slotsRules}
@@ -19,7 +21,7 @@ use Rattle.layout.specs.declared.pack.SdccFlp.{SdccFlp}
 use Rattle.matrix.specs.Lookup.{cellAnswer}
 use Rattle.numbers.specs.BerOid.{oidWritten}
 use Rattle.reader.specs.Rules.{readAnswerIn, readAnswer}
-use Rattle.report.specs.Printed.{printAnswer}
+use Rattle.lines.specs.Printed.{printAnswer}
 use Rattle.writer.specs.Rules.{writeAnswer}
 
 pub record Answered : Type 0 where
@@ -46,5 +48,7 @@ pub record Answered : Type 0 where
   pub maps-special : (L : ℕ) (s : ImapbSpecial) (room : ℕ) → InTable (specialWritten L s room)
   -- cell lookup
   pub looks-up : (p : SdccFlp) (ds cs : List ℕ) (i j : ℕ) → InTable (cellAnswer p ds cs i j)
-  -- what the program prints, into lent memory
-  pub prints : (bytes : List ℕ) (room : ℕ) → InTable (printAnswer bytes room)
+  -- the rule that is named, for every byte string
+  pub explains : (bytes : List ℕ) (x : Rule) → InTable (ruleOf bytes x)
+  -- what the programs print, into lent memory
+  pub prints : (room : ℕ) (text : List ℕ) (got : ℕ) → InTable (printAnswer room text got)

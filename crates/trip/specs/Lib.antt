@@ -7,3 +7,4 @@ pub mod Compared
 pub mod Tripped
 pub mod Cells
 pub mod Answered
+pub mod Told
