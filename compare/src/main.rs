@@ -13,7 +13,7 @@ mod klv {
     include!(concat!(env!("OUT_DIR"), "/klv.rs"));
 }
 
-use kinds::{has_other_power, hex, print, Case, Kind, KINDS};
+use kinds::{has_other_power, hex, print, reasons, Case, Kind, KINDS};
 use program::written;
 use random::Random;
 use std::env;
@@ -132,12 +132,24 @@ fn three_bytes(program: &[String]) -> io::Result<ExitCode> {
     Ok(ExitCode::from(u8::from(differ > 0)))
 }
 
-// The program that prints a pack, run on one after the other.
-fn runs(seed: u64, program: &[String]) -> io::Result<ExitCode> {
+// What the program of this name prints of a pack.
+fn printed_by(name: &str) -> io::Result<fn(&[u8]) -> String> {
+    match name {
+        "sdcc" => Ok(print::printed),
+        "why" => Ok(reasons::printed),
+        _ => Err(io::Error::other(
+            "the programs that are run are sdcc and why",
+        )),
+    }
+}
+
+// A program that prints what it has to say of a pack, run on one after the other.
+fn runs(name: &str, seed: u64, program: &[String]) -> io::Result<ExitCode> {
+    let printed_of = printed_by(name)?;
     let inputs = print::inputs(&mut Random::new(seed));
     let mut differ = 0;
     for input in &inputs {
-        let expected = print::printed(&input.bytes);
+        let expected = printed_of(&input.bytes);
         let printed = written(program, input.bytes.clone(), input.piece)?;
         if printed == expected {
             continue;
@@ -149,7 +161,7 @@ fn runs(seed: u64, program: &[String]) -> io::Result<ExitCode> {
             println!("  port  {}", cut(&format!("{printed:?}")));
         }
     }
-    println!("sdcc: {} runs compared, {differ} differ", inputs.len());
+    println!("{name}: {} runs compared, {differ} differ", inputs.len());
     Ok(ExitCode::from(u8::from(differ > 0)))
 }
 
@@ -175,14 +187,14 @@ fn main() -> ExitCode {
         [mode, program @ ..] if mode == "--three-bytes" && !program.is_empty() => {
             three_bytes(program)
         }
-        [mode, seed, program @ ..] if mode == "--runs" && !program.is_empty() => {
-            runs(number(seed), program)
+        [mode, name, seed, program @ ..] if mode == "--runs" && !program.is_empty() => {
+            runs(name, number(seed), program)
         }
         [seed, count, program @ ..] if !program.is_empty() => {
             compare(number(seed), number(count) as usize, program)
         }
         _ => Err(io::Error::other(
-            "usage: compare SEED COUNT PROGRAM.. | compare --three-bytes PROGRAM.. | compare --runs SEED PROGRAM.. | compare --sample SEED COUNT FOLDER",
+            "usage: compare SEED COUNT PROGRAM.. | compare --three-bytes PROGRAM.. | compare --runs NAME SEED PROGRAM.. | compare --sample SEED COUNT FOLDER",
         )),
     };
     ended.unwrap_or_else(|error| {

@@ -20,9 +20,12 @@ pub mod print;
 mod ranges;
 mod read;
 mod read_in;
+pub mod reasons;
+mod rules;
 mod short;
 mod special;
 mod usable;
+mod why;
 mod widen;
 mod write;
 mod write_at_limits;
@@ -43,7 +46,7 @@ pub struct Kind {
     pub share: usize,
 }
 
-pub const KINDS: [Kind; 14] = [
+pub const KINDS: [Kind; 15] = [
     oid::KIND,
     widen::KIND,
     narrow::KIND,
@@ -58,6 +61,7 @@ pub const KINDS: [Kind; 14] = [
     cell::KIND,
     usable::KIND,
     print::KIND,
+    why::KIND,
 ];
 
 // Every string of three bytes that starts with this one, peeked at and read.

@@ -17,11 +17,16 @@ pub const KIND: Kind = Kind {
 const BYTES: usize = 20_480;
 const ROWS: usize = 64;
 
+pub(super) const TOO_BIG: &str = "too big for this program\n";
+
+pub(super) fn is_too_big(bytes: &[u8]) -> bool {
+    bytes.len() > BYTES || peek_matrix_size(bytes).is_some_and(|n| n > ROWS)
+}
+
 // All that it writes, each line with its newline.
 pub fn printed(bytes: &[u8]) -> String {
-    let is_too_big = bytes.len() > BYTES || peek_matrix_size(bytes).is_some_and(|n| n > ROWS);
-    if is_too_big {
-        return "too big for this program\n".to_string();
+    if is_too_big(bytes) {
+        return TOO_BIG.to_string();
     }
     read::answer(read::LARGEST, bytes).replace(';', "\n") + "\n"
 }
@@ -108,9 +113,17 @@ fn beside_rows(random: &mut Random) -> Vec<Vec<u8>> {
     packs
 }
 
+// A pack that the deviations end, cut at every byte: at random hardly a deviation is short.
+fn cut_in_deviations(random: &mut Random) -> Vec<Vec<u8>> {
+    let whole = pack(random, 17, 0, Control::of(true, true, 0, 4)).bytes;
+    let lengths = 0..whole.len();
+    lengths.map(|length| whole[..length].to_vec()).collect()
+}
+
 pub fn inputs(random: &mut Random) -> Vec<Input> {
     let mut at_once = listed();
     at_once.extend(beside_rows(random));
+    at_once.extend(cut_in_deviations(random));
     at_once.extend((0..RUNS).map(|_| made(random).0));
     for length in [BYTES, BYTES + 1, 1_000_000] {
         at_once.extend(listed().iter().map(|pack| of_length(pack, length)));

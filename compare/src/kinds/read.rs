@@ -50,7 +50,7 @@ pub(super) fn case(rooms: Rooms, bytes: &[u8]) -> Case {
     }
 }
 
-fn refused(error: KlvFieldError, bytes: &[u8]) -> String {
+pub(super) fn refused(error: KlvFieldError, bytes: &[u8]) -> String {
     match error {
         KlvFieldError::TruncatedField { .. } => {
             let [needed, got] = numbers(bytes);

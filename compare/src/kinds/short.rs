@@ -7,22 +7,29 @@ use crate::klv::length::read_ber_oid;
 pub(super) type Short = [usize; 2];
 
 // What Parse Control says of the elements behind it, and their bytes.
-struct Body<'a> {
-    cs: bool,
-    clen: usize,
-    slen: usize,
-    bytes: &'a [u8],
+pub(super) struct Body<'a> {
+    pub cs: bool,
+    pub cf: bool,
+    pub clen: usize,
+    pub sf: bool,
+    pub slen: usize,
+    pub bytes: &'a [u8],
 }
 
-fn body(control: &[u8]) -> Option<Body<'_>> {
-    let (cs, clen, slen, bytes) = match control {
-        [one, bytes @ ..] if *one < 0x80 => (one & 0x08, one & 7, one >> 4, bytes),
-        [one, two, bytes @ ..] => (one & 0x20, one & 15, two & 15, bytes),
+pub(super) fn body(control: &[u8]) -> Option<Body<'_>> {
+    let (cs, cf, clen, sf, slen, bytes) = match control {
+        [one, bytes @ ..] if *one < 0x80 => (one & 0x08, 1, one & 7, 0, one >> 4, bytes),
+        [one, two, bytes @ ..] => {
+            let (cf, sf) = (one & 0x10, two & 0x10);
+            (one & 0x20, cf, one & 15, sf, two & 15, bytes)
+        }
         _ => return None,
     };
     Some(Body {
         cs: cs != 0,
+        cf: cf != 0,
         clen: clen.into(),
+        sf: sf != 0,
         slen: slen.into(),
         bytes,
     })

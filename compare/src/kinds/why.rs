@@ -1,0 +1,90 @@
+//! `why HEX`: the rule that refuses a pack, or where its elements and slots stand. Whether it is refused, with which
+//! numbers, and which slots are present is the Rust's `decode_sdcc_flp`.
+use super::packs_at_limits::{documented, every_control, every_cut, every_short, every_size};
+use super::packs_at_limits::{longest, of_long_codes, padded};
+use super::packs_at_random::made;
+use super::rules::{ends, header};
+use super::{hex, read, Case, Kind};
+use crate::error::KlvFieldError;
+use crate::klv::st1010::{decode_sdcc_flp, SdccFlp};
+use crate::random::Random;
+use std::fmt::Write;
+
+pub const KIND: Kind = Kind {
+    name: "why",
+    limits,
+    random,
+    share: 1,
+};
+
+pub(super) fn answer(bytes: &[u8]) -> String {
+    match decode_sdcc_flp(bytes) {
+        Ok(read) => accepted(bytes, &read),
+        Err(error) => refused(bytes, error),
+    }
+}
+
+fn refused(bytes: &[u8], error: KlvFieldError) -> String {
+    let Err(rule) = ends(bytes) else {
+        panic!("no rule refuses {}", hex(bytes));
+    };
+    let refused = read::refused(error, bytes);
+    // the rule is one that refuses as the Rust did
+    assert!(refused.starts_with(&format!("refused {} ", rule.number)));
+    format!("rule {} {} {refused}", rule.letter, rule.place)
+}
+
+fn accepted(bytes: &[u8], read: &SdccFlp) -> String {
+    let (Ok(ends), Ok(header)) = (ends(bytes), header(bytes)) else {
+        panic!("a rule refuses {}", hex(bytes));
+    };
+    let mut text = format!("accepted {}", bytes.len());
+    let mut start = 0;
+    for (name, end) in ["n", "control", "vector", "deviations", "codes"]
+        .into_iter()
+        .zip(ends)
+    {
+        write!(text, ";{name} {start} {end}").unwrap();
+        start = end;
+    }
+    let [.., mut next, end] = ends;
+    let n = read.matrix_size as usize;
+    let cells = (0..n).flat_map(|i| (i + 1..n).map(move |j| (i, j)));
+    for ((i, j), present) in cells.zip(&read.correlation_present) {
+        if *present {
+            let start = next;
+            next += header.body.clen;
+            write!(text, ";slot {i} {j} 1 {start} {next}").unwrap();
+        } else {
+            write!(text, ";slot {i} {j} 0 absent").unwrap();
+        }
+    }
+    // the slots that the Rust calls present fill the codes
+    assert_eq!(next, end);
+    text
+}
+
+fn case(bytes: &[u8]) -> Case {
+    Case {
+        request: format!("why {}", hex(bytes)),
+        answer: answer(bytes),
+    }
+}
+
+fn limits() -> Vec<Case> {
+    let mut strings = every_short();
+    // those of three bytes are `read`'s
+    strings.retain(|bytes| bytes.len() < 3);
+    for more in [documented(), padded(), every_control(), every_cut()] {
+        strings.extend(more);
+    }
+    strings.extend(every_size());
+    // of the long ones, a few will do
+    strings.extend(of_long_codes().into_iter().step_by(5));
+    strings.push(longest());
+    strings.iter().map(|bytes| case(bytes)).collect()
+}
+
+fn random(random: &mut Random) -> Case {
+    case(&made(random).0)
+}
