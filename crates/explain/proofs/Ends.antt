@@ -10,7 +10,7 @@ use lib.ListN.{length}
 use Rattle.answers.specs.Table.{answer, wholes, passes}
 use Rattle.answers.proofs.Rules.{picked}
 use Rattle.layout.specs.declared.rule.Rule.{Rule}
-use Rattle.layout.specs.declared.rule.Rule.the-variants.{A, B, C, D, E, F, G, H, I, J, K}
+use Rattle.layout.specs.declared.rule.Rule.the-variants.{A, B, C, D, E, F, G, H, J, K}
 use Rattle.layout.specs.Header.{headRules}
 use Rattle.layout.specs.Ruled.{passed}
 use Rattle.layout.specs.Size.{fitRuled}

@@ -5,7 +5,7 @@ use lib.Dec.{ltb}
 use lib.ListN.{length}
 use Rattle.answers.specs.Table.{pick}
 use Rattle.elements.specs.declared.head.Head.{Head}
-use Rattle.elements.specs.Elements.{headOf, codesAt, presentIn, presentBefore}
+use Rattle.elements.specs.Elements.{codesAt, presentIn, presentBefore}
 use Rattle.explain.specs.declared.slot.SlotCode.{SlotCode}
 use Rattle.explain.specs.declared.slot.SlotCode.the-variants.{Absent, At}
 use Rattle.explain.specs.Spans.{span}

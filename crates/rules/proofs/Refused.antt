@@ -14,7 +14,6 @@ use Rattle.layout.specs.declared.rule.Rule.{Rule}
 use Rattle.layout.specs.declared.rule.Rule.the-variants.{A, B, C, D, E, F, G, H, I, J, K}
 use Rattle.layout.specs.Ruled.{Ruled, passed, refusedBy, unnamed}
 use Rattle.layout.specs.Size.{fitRuled}
-use Rattle.elements.specs.Elements.{headOf}
 use Rattle.deviations.specs.declared.form.DeviationRange.the-variants.{Unknown}
 use Rattle.rules.specs.Named.{ruleOf, packRuled, rank, RefusedBy}
 use Rattle.rules.specs.Rules.{packRules}

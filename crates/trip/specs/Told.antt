@@ -1,17 +1,16 @@
 -- Document 02, K4: what is told of a pack is what the reader does with it, given room enough and no range.
 use Prim.Native.Nat.{ℕ}
 use mathlib.Core.Path.{_≡_}
-use mathlib.Core.List.{List, [], _∷_, _++_}
+use mathlib.Core.List.{List}
 use mathlib.Core.Logic.{_↔_}
-use Rattle.answers.specs.Table.{Answer, answer, short, wholes, passes}
+use Rattle.answers.specs.Table.{Answer, passes}
 use Rattle.layout.specs.declared.rule.Rule.{Rule}
-use Rattle.layout.specs.declared.rule.Rule.the-variants.{A, B, C, D, E, F, G, H, I, J, K}
 use Rattle.elements.specs.Elements.{headOf}
 use Rattle.rules.specs.Named.{ruleOf, RefusedBy}
 use Rattle.rules.specs.Rules.{roomRules}
 use Rattle.reader.specs.Rules.{done, readAnswer}
 use Rattle.explain.specs.Spans.{elementsOf}
-use Rattle.explain.specs.Explained.{Explanation, accepted, refused, placeOf, explained}
+use Rattle.explain.specs.Explained.{accepted, refused, placeOf, explained}
 use Rattle.explain.specs.Joined.{Joined}
 
 module _ (bytes : List ℕ) where

@@ -1,9 +1,8 @@
 -- `account::put_accepted` meets its contract: one piece behind the other.
 -- Assumes nothing.
-use mathlib.Core.Path.{_≡_, sym, ap, _∙_}
+use mathlib.Core.Path.{sym, ap, _∙_}
 use borrow.Author.Needs.{needs}
 use Rattle.explain.specs.declared.spans.Elements.{Elements}
-use Rattle.explain.specs.Slots.{codeAt}
 use Rattle.explain.proofs.Joined.{joined}
 use Rattle.text.proofs.Pieces.{put-then}
 use Rattle.accounts.proofs.Told.{told}

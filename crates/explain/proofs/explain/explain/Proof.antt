@@ -1,8 +1,7 @@
 -- `explain::explain` meets its contract.
 -- Assumes nothing.
-use mathlib.Core.Path.{_≡_, sym, ap, _∙_}
+use mathlib.Core.Path.{_≡_}
 use borrow.Author.Needs.{needs}
-use Rattle.elements.specs.declared.head.Places.{Places}
 use Rattle.elements.specs.Elements.{headOf, placesOf}
 use Rattle.elements.proofs.Opened.{pack-tells, refused-tells}
 use Rattle.layout.specs.Ruled.{passed, refusedBy}

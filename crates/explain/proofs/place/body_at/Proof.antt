@@ -1,6 +1,6 @@
 -- `place::body_at` meets its contract: the header was read.
 -- Assumes nothing.
-use mathlib.Core.Path.{sym, ap, _∙_}
+use mathlib.Core.Path.{sym, _∙_}
 use borrow.Author.Needs.{needs}
 use borrow.Author.Tests.{eqb-false}
 use Rattle.layout.specs.Header.{headRules}

@@ -1,10 +1,9 @@
 -- `place::place_of` meets its contract.
 -- Assumes nothing.
-use mathlib.Core.Path.{_≡_, refl, sym, _∙_}
+use mathlib.Core.Path.{_≡_, _∙_}
 use Prim.Native.Nat.{ℕ}
 use native.Mathlib.Omega.{arith}
 use borrow.Author.Needs.{needs}
-use Rattle.elements.specs.Listed.{pack, verdict}
 use Rattle.elements.proofs.Opened.{pack-tells, refused-tells}
 use Rattle.layout.specs.Size.{fitRuled}
 use Rattle.explain.proofs.Places.{at-front, at-control, at-body, late, all-fit}

@@ -1,6 +1,5 @@
 -- `spans::elements_of` meets its contract: nothing stands behind the codes.
 -- Assumes nothing.
-use mathlib.Core.Path.{_≡_}
 use Rattle.layout.specs.declared.rule.Rule.the-variants.{A}
 use Rattle.rules.proofs.Refused.{none-refuses}
 use Rattle.explain.proofs.Ends.{ends}
