@@ -9,7 +9,7 @@ use native.Mathlib.Nat.{not-suc-le-zero, le-of-suc-le-suc, eq-or-lt-of-le}
 use native.Mathlib.Numerals.{add-one}
 use native.Mathlib.Omega.{arith}
 use lib.ListN.{length, take, drop, getD, set, length-append, length-set, List·getD-append}
-use lib.Seq.{take-suc, drop-cons, set-at, append-snoc, length-take-le, take-all, getD-at}
+use lib.Seq.{take-suc, drop-cons, set-at, append-snoc, length-take-le, take-all, getD-at, drop-append-seam}
 use Rattle.answers.specs.declared.Refusal.{Refusal}
 use Rattle.answers.specs.Table.{pick}
 use Rattle.answers.specs.Listed.{listed}
@@ -62,3 +62,7 @@ module _ {front l₀ : List ℕ} where
 
   pub front-done : {i : ℕ} {l : List ℕ} → Front front l₀ i l → i ≡ length front → l ≡ over front l₀
   front-done p e = rw e at (p .is) ∙ ap (λ (t : List ℕ). t ++ drop (length front) l₀) (take-all (length front) front (omega arith))
+
+-- a front over another of its length
+pub over-twice : (front back lent : List ℕ) → length front ≡ length back → over front (over back lent) ≡ over front lent
+over-twice front back lent e = rw e (ap (λ (t : List ℕ). front ++ t) (drop-append-seam back (drop (length back) lent)))

@@ -28,3 +28,10 @@ module _ {A : Type 0} (rules : Answer) (a : A) where
 
   pub refused-where : (r : Refusal) → rules ≡ listed r → refused (listed r) ≡ unless rules a
   refused-where r e = rw (e, refused-not-done r)
+
+-- what was found is no refusal, and one thing
+pub found-one : {A : Type 0} {x y : A} → found x ≡ found y → x ≡ y
+found-one e = cc
+
+pub found-not-refused : {A : Type 0} {x : A} {r : Answer} → refused r ≡ found x → ⊥
+found-not-refused e = let z : _≡_ {A = ℕ} 0 1 = cc in omega arith

@@ -1,3 +1,4 @@
+pub mod Bits
 pub mod Digits
 pub mod Bytes
 pub mod BerOid

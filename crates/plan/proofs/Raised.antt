@@ -11,7 +11,7 @@ use native.Mathlib.Decide.{decLe}
 use native.Mathlib.Numerals.{add-one}
 use native.Mathlib.Omega.{arith}
 use borrow.Author.Tests.{eq-eqb, ne-eqb, le-ltb, lt-leb}
-use lib.Bits.{bitOr, or-add-and, and-le-l, and-le-r, or-shr, or-mod}
+use lib.Bits.{bitOr, or-shr, or-mod}
 use lib.Dec.{T, eqb, lit<}
 use lib.ListN.{length, getD}
 use lib.Pow.{pow-pos, pow-mono}
@@ -19,6 +19,7 @@ use lib.Ieee.{binary64, ofFields, ofBits, nanBits, le}
 use lib.Ieee.Bits.{nanBits-above}
 use lib.Ieee.Exact.{HasValue}
 use lib.Ieee.Positive.{positive-of-value, values-of-le}
+use Rattle.numbers.proofs.Bits.{or-least}
 use Rattle.numbers.proofs.Patterns.{normal-value}
 use Rattle.answers.specs.Table.{pick}
 use Rattle.imapb.specs.Tables.{rangeRule}
@@ -71,9 +72,6 @@ least-is b h l =
     ]
 
 -- ---- a bit that is clear in the one or the other is clear in both
-or-least : (a b : ℕ) → (a ≤ bitOr a b) × (b ≤ bitOr a b)
-or-least a b = (omega (arith, or-add-and a b, and-le-r a b), omega (arith, or-add-and a b, and-le-l a b))
-
 or-clear : (a b : ℕ) → bitOr a b / 2 ^ 62 % 2 ≡ 0 → (a / 2 ^ 62 % 2 ≡ 0) × (b / 2 ^ 62 % 2 ≡ 0)
 or-clear a b e =
     let q : bitOr a b / 2 ^ 62 % 2 ≡ bitOr (a / 2 ^ 62 % 2) (b / 2 ^ 62 % 2) = ap (λ (n : ℕ). n % 2) (or-shr a b 62) ∙ or-mod (a / 2 ^ 62) (b / 2 ^ 62) 1 in
