@@ -5,8 +5,9 @@ use mathlib.Core.Bool.{true, false}
 use mathlib.Core.List.{List, [], _∷_}
 use Prim.Native.Nat.{ℕ, _+_, _-_, _*_, _/_, _^_, _≤_, _<_}
 use native.Mathlib.Omega.{arith}
-use borrow.Author.Tests.{le-leb, lt-leb}
-use lib.Dec.{T, leb, leb→le}
+use borrow.Author.Tests.{le-leb, lt-leb, eqb-true}
+use lib.Dec.{T, leb, leb→le, eqb}
+use lib.ListN.{length}
 use lib.Ieee.Fits.{and-l, and-r}
 use lib.Pow.{pow-add, shl-shr, shr-shr}
 use Rattle.answers.specs.Listed.{listed}
@@ -46,6 +47,13 @@ module _ {rules : Answer} (d : DecodedImapb) where
 -- a code that they pass has a length that is supported
 pub code-length : (L : ℕ) (bytes : List ℕ) → passes ≡ codeRules L bytes → supported L ≡ true
 code-length L bytes e = length-told L (next-zero (lengthRule L) (sliceRule L bytes) (sym (ap (λ (a : Answer). a .number) e)) .0)
+
+-- and just as many bytes
+pub slice-length : (L : ℕ) (bytes : List ℕ) → passes ≡ codeRules L bytes → length bytes ≡ L
+slice-length L bytes e =
+    picked (λ a. a .number ≡ 0 → length bytes ≡ L) (eqb (length bytes) L) passes (answer 2 (wholes (L ∷ length bytes ∷ [])))
+    (λ t _. eqb-true (length bytes) L t) (λ _ z. absurd (omega arith))
+    (next-zero (lengthRule L) (sliceRule L bytes) (sym (ap (λ (a : Answer). a .number) e)) .1)
 
 -- ---- the powers of two
 -- the top code without its k low bits

@@ -1,3 +1,4 @@
+pub mod Flags
 pub mod Table
 pub mod Length
 pub mod Range

@@ -3,10 +3,11 @@ use crate::special::ImapbSpecial;
 use answers::Check;
 use answers::Refusal;
 ghost use mathlib.Core.Path.{_≡_};
-ghost use Prim.Native.Nat.{_≤_};
+ghost use Prim.Native.Nat.{_-_, _*_, _/_, _%_, _^_, _≤_, _<_};
 ghost use Rattle.answers.specs.Table.{pick};
 ghost use Rattle.answers.specs.Listed.{checked};
-ghost use Rattle.imapb.specs.Mapping.{valueOf};
+ghost use Rattle.numbers.specs.Words.{wordOf};
+ghost use Rattle.imapb.specs.Mapping.{topOf, valueOf};
 ghost use Rattle.imapb.specs.Special.{overflowReading, specialReading, unlessSpecial, reading};
 ghost use Rattle.imapb.specs.Tables.{imapbListed, supported, lengthRule, codeRules, imapbRead};
 
@@ -33,8 +34,8 @@ fn value_of(length: usize, y: u64) -> f64
 }
 
 // A code whose top two bits are set: its family and its payload decide.
-fn classify_imapb_special(length: usize, family: u8, payload: u64, y: u64) -> DecodedImapb
-    requires { ⌜ (1 ≤ length) × (length ≤ 8) ⌝ }
+fn classify_imapb_special(length: usize, top: u64, family: u8, payload: u64, y: u64) -> DecodedImapb
+    requires { ⌜ (1 ≤ length) × (length ≤ 8) × (top ≡ topOf length) ⌝ }
     ensures { λ r. ⌜ r ≡ specialReading length family payload y ⌝ }
 {
     let reserved = DecodedImapb::ReservedSpecial { raw: y };
@@ -47,7 +48,7 @@ fn classify_imapb_special(length: usize, family: u8, payload: u64, y: u64) -> De
         },
         0b11010 => DecodedImapb::Special(ImapbSpecial::PositiveQuietNaN { nan_id: payload }),
         0b11011 => DecodedImapb::Special(ImapbSpecial::PositiveSignalingNaN { signal: payload }),
-        0b11100 => overflow_signal(length, payload, y),
+        0b11100 => overflow_signal(length, top, payload, y),
         0b11101 => if payload == 0 {
             DecodedImapb::Special(ImapbSpecial::NegativeInfinity)
         } else {
@@ -60,18 +61,27 @@ fn classify_imapb_special(length: usize, family: u8, payload: u64, y: u64) -> De
 }
 
 // Table 3: byte E0 or E1, followed only by zeros.
-fn overflow_signal(length: usize, payload: u64, y: u64) -> DecodedImapb
-    requires { ⌜ (1 ≤ length) × (length ≤ 8) ⌝ }
+fn overflow_signal(length: usize, top: u64, payload: u64, y: u64) -> DecodedImapb
+    requires { ⌜ (1 ≤ length) × (length ≤ 8) × (top ≡ topOf length) ⌝ }
     ensures { λ r. ⌜ r ≡ overflowReading length payload y ⌝ }
 {
     if payload == 0 {
         return DecodedImapb::Special(ImapbSpecial::BelowMin);
     }
-    if payload == crate::top_code(length) / 128 {
+    if payload == top / 128 {
         DecodedImapb::Special(ImapbSpecial::AboveMax)
     } else {
         DecodedImapb::ReservedSpecial { raw: y }
     }
+}
+
+// Such a code, by the top code of its length.
+fn special_of(length: usize, top: u64, y: u64) -> DecodedImapb
+    requires { ⌜ (1 ≤ length) × (length ≤ 8) × (top ≡ topOf length) × (y / 2 ^ (8 * length - 2) ≡ 0b11) ⌝ }
+    ensures { λ r. ⌜ r ≡ specialReading length (y / 2 ^ (8 * length - 5)) (y % 2 ^ (8 * length - 5)) y ⌝ }
+{
+    let family = (y >> (8 * length - 5)) as u8;
+    classify_imapb_special(length, top, family, y & (top / 16 - 1), y)
 }
 
 // A special or a reserved pattern where the top two bits of a code are set, and otherwise the number given, whatever
@@ -85,24 +95,28 @@ pub fn unless_special(length: usize, y: u64, number: DecodedImapb) -> DecodedIma
     if 8 < length {
         return number;
     }
-    let unit = crate::top_code(length) / 16;
-    let family = y / unit;
-    if family / 8 == 0b11 {
-        return classify_imapb_special(length, family as u8, y % unit, y);
+    let top = crate::top_code(length);
+    if y / (top / 2) == 0b11 {
+        return special_of(length, top, y);
     }
     number
 }
 
 // What the code y reads as.
 fn reading_of(length: usize, y: u64) -> DecodedImapb
-    requires { ⌜ (1 ≤ length) × (length ≤ 8) ⌝ }
+    requires { ⌜ (1 ≤ length) × (length ≤ 8) × (y < 2 ^ (8 * length)) ⌝ }
     ensures { λ r. ⌜ r ≡ reading length y ⌝ }
 {
+    let top = crate::top_code(length);
+    // from here on the top two bits are set
+    if top / 2 * 3 <= y {
+        return special_of(length, top, y);
+    }
     let value = value_of(length, y);
-    if y <= crate::top_code(length) {
+    if y <= top {
         DecodedImapb::Value(value)
     } else {
-        unless_special(length, y, DecodedImapb::OutOfRange { decoded: value })
+        DecodedImapb::OutOfRange { decoded: value }
     }
 }
 
@@ -117,6 +131,16 @@ pub fn check_length(length: usize) -> Check
         return Check::Refused(Refusal::UnsupportedImapbLength { length });
     }
     Check::Passes
+}
+
+// The code that the bytes are: eight are one word.
+fn code_in(bytes: &[u8]) -> u64
+    ensures { λ r. ⌜ r ≡ wordOf (now (bytes .entry)) ⌝ }
+{
+    if bytes.len() == 8 {
+        return numbers::words::read_be(&bytes[..8]);
+    }
+    numbers::words::read_be(bytes)
 }
 
 // And the slice that holds it has just as many.
@@ -143,5 +167,5 @@ pub fn decode_imapb(length: usize, bytes: &[u8]) -> ImapbRead
     if let Check::Refused(refusal) = check_code(length, bytes) {
         return ImapbRead::Refused(refusal);
     }
-    ImapbRead::Done(reading_of(length, numbers::words::read_be(bytes)))
+    ImapbRead::Done(reading_of(length, code_in(bytes)))
 }
