@@ -14,7 +14,7 @@ use Rattle.answers.proofs.Rules.{picked}
 use Rattle.layout.specs.Triangle.{slotsOf, slotOf}
 use Rattle.layout.proofs.RowByRow.{row-next, row-within}
 use Rattle.elements.specs.declared.head.Head.{Head}
-use Rattle.elements.specs.Elements.{presentIn}
+use Rattle.elements.specs.Elements.{part, presentIn, codeSlot}
 use Rattle.explain.specs.declared.slot.SlotCode.{SlotCode}
 use Rattle.explain.specs.declared.slot.SlotCode.the-variants.{Absent, At}
 use Rattle.explain.specs.Slots.{codeAt, slotCode}
@@ -27,8 +27,9 @@ slot-length : (lines : Bool) (bytes : List ℕ) (i j : ℕ) (h : Head) (k : ℕ)
     → length (gap lines ++ slotText lines bytes i j (slotCode bytes h k)) ≤ 111 + 2 * h .control .clen
 slot-length lines bytes i j h k =
     let s = span (codeAt bytes h k) (codeAt bytes h k + h .control .clen) in
+    let x = codeSlot (h .control) (part bytes (codeAt bytes h k) (h .control .clen)) .state in
     picked (λ (c : SlotCode). length (gap lines ++ slotText lines bytes i j c) ≤ 111 + 2 * h .control .clen) (presentIn bytes (h .body) (h .control) k)
-    (At s) Absent (λ _. omega (arith, at-length lines bytes i j s)) (λ _. omega (arith, absent-length lines bytes i j))
+    (At s x) Absent (λ _. omega (arith, at-length lines bytes i j s x)) (λ _. omega (arith, absent-length lines bytes i j))
 
 -- row by row
 module _ (lines : Bool) (bytes : List ℕ) (h : Head) where

@@ -1,9 +1,8 @@
 -- How deviations are read, worked out of a range and a control; and one deviation by it.
 use Prim.Native.Nat.{ℕ}
 use mathlib.Core.List.{List}
-use lib.Dec.{eqb}
 use Rattle.answers.specs.Table.{Answer, pick}
-use Rattle.answers.specs.Outcome.{Outcome}
+use Rattle.answers.specs.Outcome.{Outcome, unless}
 use Rattle.imapb.specs.Tables.{Reading, reads}
 use Rattle.imapb.specs.Tables as imapb
 use Rattle.ranges.specs.declared.mapping.RangeMapping.{RangeMapping}
@@ -11,8 +10,7 @@ use Rattle.ranges.specs.Tables.{rangeListed, workedOut, workedRead}
 use Rattle.layout.specs.declared.control.ParseControl.{ParseControl}
 use Rattle.elements.specs.Elements.{part, ieee, valueBits}
 use Rattle.elements.specs.Formats.{deviationFormat}
-use Rattle.elements.specs.Numbers.{Read, bits, element}
-use Rattle.elements.specs.Numbers as elements
+use Rattle.elements.specs.Numbers.{element}
 use Rattle.deviations.specs.declared.form.DeviationRange.{DeviationRange}
 use Rattle.deviations.specs.declared.form.DeviationRange.the-variants.{Unknown, Known}
 use Rattle.deviations.specs.declared.form.DeviationForm.{DeviationForm}
@@ -51,11 +49,10 @@ formBits plain c raw = ieee (c .slen) raw
 formBits (mapped range) c raw = readingBits (workedRead range raw)
 
 -- the deviation of a row, which starts at `at`
-abbrev pub formNumber : List ℕ → ℕ → ParseControl → Form → ℕ → Read
+abbrev pub formNumber : List ℕ → ℕ → ParseControl → Form → ℕ → Outcome ℕ
 formNumber bytes at c f row =
     element bytes at (c .slen) (formFormat f c row (part bytes at (c .slen))) (formBits f c (part bytes at (c .slen)))
 
 -- what a code's answer is as a deviation's
-abbrev pub codeDeviation : ℕ → Reading → Read
-codeDeviation row r =
-    pick (eqb (readingRule row r .number) 0) (bits (readingBits r)) (elements.refused (readingRule row r))
+abbrev pub codeDeviation : ℕ → Reading → Outcome ℕ
+codeDeviation row r = unless (readingRule row r) (readingBits r)

@@ -1,4 +1,5 @@
 pub mod OneAnswer
 pub mod Opened
 pub mod Parts
+pub mod States
 pub mod Vector

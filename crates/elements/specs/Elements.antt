@@ -16,6 +16,7 @@ use Rattle.layout.specs.declared.control.ParseControl.{ParseControl}
 use Rattle.layout.specs.Control.{isSet}
 use Rattle.elements.specs.declared.head.Head.{Head}
 use Rattle.elements.specs.declared.head.Places.{Places}
+use Rattle.elements.specs.declared.slot.Slot.{Slot}
 use Rattle.layout.specs.Triangle.{slotsOf, bitBytes}
 use Rattle.layout.specs.Header.{matrixSize, controlOf, bodyAt}
 
@@ -85,28 +86,45 @@ valueBits (Special s) = 0
 valueBits (ReservedSpecial y) = 0
 valueBits (OutOfRange x) = 0
 
-abbrev pub codeBits : ParseControl → List ℕ → ℕ
-codeBits c raw = pick (c .cf) (valueBits (reading (c .clen) (wordOf raw))) (ieee (c .clen) raw)
+-- what the slot of such a code was: 1 a value, 2 a special, 3 a reserved pattern, 4 out of range
+abbrev pub stateOf : DecodedImapb → ℕ
+stateOf (Value x) = 1
+stateOf (Special s) = 2
+stateOf (ReservedSpecial y) = 3
+stateOf (OutOfRange x) = 4
 
--- deviation i of those that start at `at`; slot k of a pack whose vector and codes start at `at` and `codes`
+-- ---- the slots: each by the bits of its number and its state
+abbrev pub slot : ℕ → ℕ → Slot
+slot b s = record { bits = b; state = s }
+
+-- an absent slot reads 0.0, and its state is 0
+abbrev pub absent : Slot
+absent = slot 0 0
+
+abbrev pub decodedSlot : DecodedImapb → Slot
+decodedSlot d = slot (valueBits d) (stateOf d)
+
+-- in mapped form what the code reads as; an IEEE number, whatever it is, is a value
+abbrev pub codeSlot : ParseControl → List ℕ → Slot
+codeSlot c raw = pick (c .cf) (decodedSlot (reading (c .clen) (wordOf raw))) (slot (ieee (c .clen) raw) 1)
+
+-- slot k of a pack whose vector and codes start at `at` and `codes`
+abbrev pub slotIn : List ℕ → ℕ → ℕ → ParseControl → ℕ → Slot
+slotIn bytes at codes c k =
+    pick (presentIn bytes at c k)
+    (codeSlot c (part bytes (codes + presentBefore bytes at c k * c .clen) (c .clen)))
+    absent
+
+-- deviation i of those that start at `at`
 abbrev pub deviationIn : List ℕ → ℕ → ParseControl → ℕ → ℕ
 deviationIn bytes at c i = ieee (c .slen) (part bytes (at + i * c .slen) (c .slen))
-
--- an absent slot reads 0.0
-abbrev pub correlationIn : List ℕ → ℕ → ℕ → ParseControl → ℕ → ℕ
-correlationIn bytes at codes c k =
-    pick (presentIn bytes at c k) (codeBits c (part bytes (codes + presentBefore bytes at c k * c .clen) (c .clen))) 0
-
--- 1 for present and 0 for absent
-abbrev pub presenceIn : List ℕ → ℕ → ParseControl → ℕ → ℕ
-presenceIn bytes at c k = pick (presentIn bytes at c k) 1 0
 
 module _ (bytes : List ℕ) (h : Head) where
   abbrev pub deviations : List ℕ
   deviations = tab (deviationCount h) (deviationIn bytes (deviationsAt h) (h .control))
 
   abbrev pub correlations : List ℕ
-  correlations = tab (slotsOf (h .n)) (correlationIn bytes (h .body) (codesAt h) (h .control))
+  correlations = tab (slotsOf (h .n)) (λ k. slotIn bytes (h .body) (codesAt h) (h .control) k .bits)
 
-  abbrev pub presence : List ℕ
-  presence = tab (slotsOf (h .n)) (presenceIn bytes (h .body) (h .control))
+  abbrev pub states : List ℕ
+  states = tab (slotsOf (h .n)) (λ k. slotIn bytes (h .body) (codesAt h) (h .control) k .state)

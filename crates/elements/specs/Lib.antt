@@ -1,5 +1,6 @@
 pub mod Elements
 pub mod Formats
 pub mod Numbers
+pub mod Slots
 pub mod Held
 pub mod Listed

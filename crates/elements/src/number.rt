@@ -1,9 +1,7 @@
-//! One number of a pack, a deviation or a slot's correlation, as binary64 bits.
+//! One number of a pack, as binary64 bits.
 use answers::Check;
 use answers::Refusal;
 use imapb::decode::DecodedImapb;
-use imapb::decode::ImapbRead;
-use imapb::decode::decode_imapb;
 use layout::control::ParseControl;
 use numbers::conversions::binary32_to_binary64;
 use numbers::words::read_be;
@@ -11,10 +9,8 @@ ghost use mathlib.Core.Path.{_≡_};
 ghost use Prim.Native.Nat.{_-_};
 ghost use lib.ListN.{length};
 ghost use Rattle.answers.specs.Listed.{checked};
-ghost use Rattle.imapb.specs.Tables.{imapbListed};
 ghost use Rattle.elements.specs.Elements.{valueBits};
-ghost use Rattle.elements.specs.Numbers.{numberListed, refusalOf, ieeeNumber, deviationNumber, codeNumber};
-ghost use Rattle.elements.specs.Numbers.{correlationNumber, slotNumber};
+ghost use Rattle.elements.specs.Numbers.{numberListed, refusalOf, ieeeNumber, deviationNumber};
 
 pub enum Number {
     Bits(u64),
@@ -43,7 +39,7 @@ pub fn left(bytes: &[u8], at: usize) -> usize
 }
 
 // An IEEE number: binary32 for 4 bytes, binary64 for 8.
-fn ieee_at(bytes: &[u8], at: usize, size: usize) -> Number
+pub(crate) fn ieee_at(bytes: &[u8], at: usize, size: usize) -> Number
     ensures { λ r. ⌜ numberListed r ≡ ieeeNumber (now (bytes .entry)) at size ⌝ }
 {
     let there = left(bytes, at);
@@ -101,49 +97,5 @@ pub fn value_bits(decoded: DecodedImapb) -> u64
         0x7ff8_0000_0000_0000
     } else {
         f64::to_bits(x)
-    }
-}
-
-// What a code's answer is as a number's.
-fn number_of(read: ImapbRead) -> Number
-    ensures { λ r. ⌜ numberListed r ≡ codeNumber (imapbListed read) ⌝ }
-{
-    match read {
-        ImapbRead::Done(decoded) => Number::Bits(value_bits(decoded)),
-        ImapbRead::Refused(refusal) => Number::Refused(refusal),
-    }
-}
-
-// Rule j) of one present slot.
-pub fn correlation_at(bytes: &[u8], at: usize, control: ParseControl) -> Number
-    ensures { λ r. ⌜ numberListed r ≡ correlationNumber (now (bytes .entry)) at control ⌝ }
-{
-    let clen = control.clen as usize;
-    if !control.cf {
-        return ieee_at(bytes, at, clen);
-    }
-    let there = left(bytes, at);
-    if there < clen {
-        return Number::Refused(Refusal::TruncatedField {
-            needed: clen,
-            got: there,
-        });
-    }
-    // with no byte to read, `at` may lie past the end
-    if clen < 1 {
-        return Number::Refused(Refusal::UnsupportedImapbLength { length: clen });
-    }
-    let end = at + clen;
-    number_of(decode_imapb(clen, &bytes[at..end]))
-}
-
-// A slot's number: 0.0 where it is absent.
-pub fn slot_at(bytes: &[u8], at: usize, control: ParseControl, present: u8) -> Number
-    ensures { λ r. ⌜ numberListed r ≡ slotNumber (now (bytes .entry)) at control present ⌝ }
-{
-    if present == 0 {
-        Number::Bits(0)
-    } else {
-        correlation_at(bytes, at, control)
     }
 }

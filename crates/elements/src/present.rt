@@ -9,7 +9,7 @@ ghost use lib.Count.{ones as onesOf};
 ghost use lib.ListN.{getD};
 ghost use Rattle.layout.specs.Size.{maxSlots};
 ghost use Rattle.layout.specs.Triangle.{slotsOf};
-ghost use Rattle.elements.specs.Elements.{onesBefore, presentBefore, presenceIn};
+ghost use Rattle.elements.specs.Elements.{onesBefore, presentIn, presentBefore};
 
 // The byte so far behind a place, and 0 past the end.
 fn byte_at(bytes: &[u8], at: usize, i: usize) -> u8
@@ -23,17 +23,17 @@ fn byte_at(bytes: &[u8], at: usize, i: usize) -> u8
     0
 }
 
-// 1 where slot k is present, and 0 where it is absent.
-pub fn presence_of(bytes: &[u8], at: usize, control: ParseControl, k: usize) -> u8
-    ensures { λ r. ⌜ r ≡ presenceIn (now (bytes .entry)) at control k ⌝ }
+// Whether slot k is present.
+pub fn is_present(bytes: &[u8], at: usize, control: ParseControl, k: usize) -> bool
+    ensures { λ r. ⌜ r ≡ presentIn (now (bytes .entry)) at control k ⌝ }
 {
     if control.clen == 0 {
-        return 0;
+        return false;
     }
     if control.cs {
-        (byte_at(bytes, at, k / 8) >> (7 - k % 8)) % 2
+        (byte_at(bytes, at, k / 8) >> (7 - k % 8)) % 2 == 1
     } else {
-        1
+        true
     }
 }
 

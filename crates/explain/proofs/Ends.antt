@@ -1,6 +1,6 @@
 -- What a pack that passes rules tells of its places.
 -- Assumes nothing.
-use mathlib.Core.Path.{_≡_}
+use mathlib.Core.Path.{_≡_, refl}
 use mathlib.Core.List.{List, [], _∷_}
 use Prim.Native.Nat.{ℕ, _<_, _≤_}
 use native.Mathlib.Omega.{arith}
@@ -10,19 +10,19 @@ use lib.ListN.{length}
 use Rattle.answers.specs.Table.{answer, wholes, passes}
 use Rattle.answers.proofs.Rules.{picked}
 use Rattle.layout.specs.declared.rule.Rule.{Rule}
-use Rattle.layout.specs.declared.rule.Rule.the-variants.{A, B, C, D, E, F, G, H, J, K}
+use Rattle.layout.specs.declared.rule.Rule.the-variants.{A, B, C, D, E, F, G, H, I, J, K}
 use Rattle.layout.specs.Header.{headRules}
 use Rattle.layout.specs.Ruled.{passed}
 use Rattle.layout.specs.Size.{fitRuled}
+use Rattle.layout.specs.Triangle.{slotsOf}
 use Rattle.elements.specs.declared.head.Head.{Head}
-use Rattle.elements.specs.Elements.{headOf, deviationsAt, deviationCount, codesAt, presentCount, endAt}
-use Rattle.elements.specs.Formats.{codeFormat}
-use Rattle.elements.specs.Held.{Within}
+use Rattle.elements.specs.Elements.{headOf, deviationsAt, deviationCount, codesAt, endAt}
+use Rattle.elements.specs.Held.{Within, SlotsHeld}
 use Rattle.elements.proofs.Opened.{fit-within, passed-fits}
 use Rattle.deviations.specs.declared.form.DeviationRange.the-variants.{Unknown}
 use Rattle.deviations.specs.Range.{formatOver, rowPart}
 use Rattle.rules.specs.Named.{rank, ruleOf, packRuled}
-use Rattle.rules.proofs.Held.{turns-held, count-bytes}
+use Rattle.rules.proofs.Held.{turns-held, count-bytes, held}
 use Rattle.rules.proofs.Refused.{none-refuses}
 
 module _ (bytes : List ℕ) where
@@ -47,19 +47,18 @@ module _ (bytes : List ℕ) where
         turns-held bytes (deviationsAt h) (h .control .slen) (λ i. formatOver Unknown (h .control) i (rowPart bytes (deviationsAt h) (h .control) i)) (deviationCount h) (placed .vector) e in
         omega (arith, t .0, count-bytes h)
 
-  -- all of them: the codes reach to the end
+  -- all of them: the codes are there, and reach to the end
   module _ (e : packRuled bytes ≡ passed) where
     abbrev h : Head
     h = headOf bytes
 
-    whole : endAt bytes h ≤ length bytes
-    whole =
+    pub slots-held : SlotsHeld bytes (h .body) (codesAt h) (h .control) (slotsOf (h .n))
+    slots-held =
         let z = none-refuses bytes e in
-        let w = codes-start (λ y _. z y) (z H) in
-        turns-held bytes (codesAt h) (h .control .clen) (λ _. codeFormat (h .control)) (presentCount bytes h) w (z J) .0
+        held Unknown bytes h refl (placed (λ y _. z y)) (rw (z H, z I, z J, z K)) .slots
 
     pub ends : length bytes ≡ endAt bytes h
     ends =
         picked (λ a. a .number ≡ 0 → length bytes ≡ endAt bytes h) (ltb (endAt bytes h) (length bytes))
         (answer 2 (wholes (endAt bytes h ∷ length bytes ∷ []))) passes (λ _ z. absurd (omega arith))
-        (λ f _. omega (arith, whole, ltb-false (endAt bytes h) (length bytes) f)) (none-refuses bytes e K)
+        (λ f _. omega (arith, slots-held .whole, ltb-false (endAt bytes h) (length bytes) f)) (none-refuses bytes e K)

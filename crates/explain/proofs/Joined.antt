@@ -1,27 +1,34 @@
 -- The places of a pack that is accepted join up to its length, and each slot's bytes are those that the reader decodes.
 -- Assumes nothing.
-use mathlib.Core.Path.{_≡_, refl, sym}
+use mathlib.Core.Path.{_≡_, refl, sym, ap, _∙_}
 use mathlib.Core.Bool.{Bool, true}
 use mathlib.Core.List.{List, [], _∷_, _++_}
-use Prim.Native.Nat.{ℕ, zero, suc, _+_, _-_, _≤_, _<_}
+use Prim.Native.Nat.{ℕ, zero, suc, _+_, _-_, _<_}
 use native.Mathlib.Nat.{zero-mul, suc-mul, mul-le-mul-right}
 use native.Mathlib.Numerals.{add-one}
 use native.Mathlib.Omega.{arith}
-use borrow.Author.Tests.{le-ltb}
 use lib.ListN.{length, getD}
+use Rattle.answers.specs.Table.{Answer}
+use Rattle.answers.specs.Outcome.{found}
 use Rattle.answers.proofs.Lent.{getD-tab}
 use Rattle.answers.proofs.Rules.{by-bool}
 use Rattle.layout.specs.Ruled.{passed}
 use Rattle.layout.specs.Triangle.{slotsOf}
 use Rattle.elements.specs.declared.head.Head.{Head}
-use Rattle.elements.specs.Elements.{headOf, codesAt, endAt, presentIn, presentBefore, correlationIn, correlations}
+use Rattle.elements.specs.declared.slot.Slot.{Slot}
+use Rattle.elements.specs.Elements.{headOf, part, codesAt, presentIn, presentBefore, slot, codeSlot, slotIn, correlations, states}
+use Rattle.elements.specs.Formats.{codeFormat}
+use Rattle.elements.specs.Held.{SlotsHeld}
+use Rattle.elements.specs.Slots.{presentRead}
+use Rattle.elements.proofs.Parts.{element-held}
 use Rattle.elements.proofs.Vector.{present-le, present-more, present-grows}
 use Rattle.rules.specs.Named.{packRuled}
 use Rattle.explain.specs.declared.spans.Span.{Span}
 use Rattle.explain.specs.Spans.{elementsOf}
 use Rattle.explain.specs.Slots.{slotFrom, codeAt, slotCode, behind}
-use Rattle.explain.proofs.Ends.{ends}
-use Rattle.explain.specs.Joined.{JoinUp, spansOf, codeSpans, numberIn, Joined}
+use Rattle.explain.proofs.Ends.{slots-held, ends}
+use Rattle.explain.proofs.Slots.{present}
+use Rattle.explain.specs.Joined.{JoinUp, spansOf, codeSpans, slotFor, stateTold, Joined}
 
 -- what joins up to a place, and behind it what joins up from there
 join-append : (a b c : ℕ) (xs ys : List Span) → JoinUp a xs b → JoinUp b ys c → JoinUp a (xs ++ ys) c
@@ -61,21 +68,33 @@ module _ (bytes : List ℕ) (h : Head) where
       one : JoinUp (codeAt bytes h k) (spansOf (slotCode bytes h k)) (behind (codeAt bytes h k) (slotCode bytes h k))
       one = by-bool (there k) (λ t. rw t (refl, omega arith, refl)) (λ f. rw f refl)
 
-  -- a slot's bytes are those that are decoded
-  code-decoded : (k : ℕ) → k < slotsOf (h .n) → numberIn bytes (h .control) (slotCode bytes h k) ≡ getD (correlations bytes h) k 0
+  -- a slot's bytes are those that are decoded, and its state is the one that is told
+  abbrev decodedAt : ℕ → Slot
+  decodedAt k = slotIn bytes (h .body) (codesAt h) (h .control) k
+
+  code-decoded : (k : ℕ) → k < slotsOf (h .n)
+      → slotFor bytes (h .control) (slotCode bytes h k) ≡ slot (getD (correlations bytes h) k 0) (getD (states bytes h) k 0)
   code-decoded k l =
-      rw (getD-tab (slotsOf (h .n)) (correlationIn bytes (h .body) (codesAt h) (h .control)) k l)
+      rw (getD-tab (slotsOf (h .n)) (λ k. decodedAt k .bits) k l, getD-tab (slotsOf (h .n)) (λ k. decodedAt k .state) k l)
       (by-bool (there k) (λ t. let e : codeAt bytes h k + size - codeAt bytes h k ≡ size = omega arith in rw (t, e)) (λ f. rw f))
 
-  -- where the codes are whole, each is
-  code-told : endAt bytes h ≤ length bytes → (k : ℕ) → k < slotsOf (h .n) → slotFrom bytes h k (codeAt bytes h k) ≡ slotCode bytes h k
+  code-state : (k : ℕ) → k < slotsOf (h .n) → stateTold (slotCode bytes h k) ≡ getD (states bytes h) k 0
+  code-state k l =
+      rw (getD-tab (slotsOf (h .n)) (λ k. decodedAt k .state) k l) (by-bool (there k) (λ t. rw t) (λ f. rw f))
+
+  -- where the codes are whole and in a format that is read, each is found
+  code-told : SlotsHeld bytes (h .body) (codesAt h) (h .control) (slotsOf (h .n)) → (k : ℕ) → k < slotsOf (h .n)
+      → slotFrom bytes h k (codeAt bytes h k) ≡ slotCode bytes h k
   code-told w k l =
-      by-bool (there k) (λ t. rw (t, le-ltb (length bytes - codeAt bytes h k) size (room t))) (λ f. rw f)
+      by-bool (there k) (λ t. sym (present bytes h k (codeAt bytes h k) t (sym (found-there t))) ∙ rw t) (λ f. rw f)
     where
-      room : there k ≡ true → size ≤ length bytes - codeAt bytes h k
-      room t =
+      found-there : there k ≡ true → presentRead bytes (codeAt bytes h k) (h .control) ≡ found (codeSlot (h .control) (part bytes (codeAt bytes h k) size))
+      found-there t =
           let e : codeAt bytes h k + size ≡ codeAt bytes h (suc k) = rw t at (code-next k) in
-          omega (arith, mul-le-mul-right size (present-grows bytes (h .body) (h .control) l))
+          let g = present-grows bytes (h .body) (h .control) l in
+          let some : 0 < before (slotsOf (h .n)) = omega (arith, g, rw t at (present-more bytes (h .body) (h .control) k)) in
+          element-held bytes (codeAt bytes h k) size (codeFormat (h .control)) (codeSlot (h .control) (part bytes (codeAt bytes h k) size))
+          (omega (arith, w .whole, mul-le-mul-right size g)) (ap (λ (a : Answer). a .number) (w .format some))
 
 -- ---- a pack that is accepted
 module _ (bytes : List ℕ) (e : packRuled bytes ≡ passed) where
@@ -93,7 +112,8 @@ module _ (bytes : List ℕ) (e : packRuled bytes ≡ passed) where
     elements = before-codes (elementsOf bytes .codes ∷ []) (refl, omega arith, sym (ends bytes e));
     slots = before-codes (codeSpans bytes h (slotsOf (h .n))) (rw (ends bytes e) (codes-join bytes h (slotsOf (h .n))));
     decoded = code-decoded bytes h;
+    state = code-state bytes h;
     first = code-first bytes h;
-    told = code-told bytes h (omega (arith, ends bytes e));
+    told = code-told bytes h (slots-held bytes e);
     next = code-next bytes h;
   }

@@ -1,34 +1,40 @@
--- One slot's code: by whether it is present, and whether it ends within the bytes.
+-- One slot's code: by whether it is present, and what reading it gives.
 -- Assumes nothing.
-use mathlib.Core.Path.{_≡_, refl}
+use mathlib.Core.Path.{_≡_, ap}
 use mathlib.Core.Bool.{Bool, true, false}
 use mathlib.Core.List.{List}
-use Prim.Native.Nat.{ℕ, _+_, _-_, _≤_, _<_}
+use Prim.Native.Nat.{ℕ, _-_, _≤_}
 use native.Mathlib.Omega.{arith}
-use borrow.Author.Tests.{lt-ltb, le-ltb}
+use borrow.Author.Tests.{ltb-false}
+use lib.Dec.{ltb}
 use lib.ListN.{length}
-use Rattle.answers.specs.Table.{pick}
+use Rattle.answers.specs.Table.{Answer, short}
+use Rattle.answers.specs.Outcome.{Outcome, found, unless}
+use Rattle.answers.proofs.Rules.{picked}
+use Rattle.layout.specs.declared.control.ParseControl.{ParseControl}
 use Rattle.elements.specs.declared.head.Head.{Head}
-use Rattle.elements.specs.Elements.{presentIn, presenceIn}
-use Rattle.explain.specs.declared.slot.SlotCode.the-variants.{Absent, At}
-use Rattle.explain.specs.Slots.{slotFrom}
-use Rattle.explain.specs.Spans.{span}
+use Rattle.elements.specs.declared.slot.Slot.{Slot}
+use Rattle.elements.specs.Elements.{part, presentIn, codeSlot}
+use Rattle.elements.specs.Formats.{codeFormat}
+use Rattle.elements.specs.Slots.{presentRead}
+use Rattle.explain.specs.declared.slot.SlotCode.the-variants.{Absent}
+use Rattle.explain.specs.Slots.{codeTold, slotFrom}
 
--- what a mark says
-unmarked : (b : Bool) {r : ℕ} → r ≡ pick b 1 0 → r ≡ 0 → b ≡ false
-unmarked true e z = absurd (omega arith)
-unmarked false e z = refl
+module _ (bytes : List ℕ) (h : Head) (k at : ℕ) where
+  abbrev there : Bool
+  there = presentIn bytes (h .body) (h .control) k
 
-marked : (b : Bool) {r : ℕ} → r ≡ pick b 1 0 → (r ≡ 0 → ⊥) → b ≡ true
-marked true e z = refl
-marked false e z = absurd (z e)
+  pub absent : there ≡ false → Absent ≡ slotFrom bytes h k at
+  absent f = rw f
 
-module _ (bytes : List ℕ) (h : Head) (k at : ℕ) {r : ℕ} (e : r ≡ presenceIn bytes (h .body) (h .control) k) where
-  pub absent : r ≡ 0 → Absent ≡ slotFrom bytes h k at
-  absent z = rw (unmarked (presentIn bytes (h .body) (h .control) k) e z)
+  pub present : there ≡ true → {r : Outcome Slot} → r ≡ presentRead bytes at (h .control)
+      → codeTold at (h .control) r ≡ slotFrom bytes h k at
+  present t e = rw t (ap (codeTold at (h .control)) e)
 
-  pub cut-short : (r ≡ 0 → ⊥) → length bytes - at < h .control .clen → Absent ≡ slotFrom bytes h k at
-  cut-short z l = rw (marked (presentIn bytes (h .body) (h .control) k) e z, lt-ltb (length bytes - at) (h .control .clen) l)
-
-  pub present : (r ≡ 0 → ⊥) → h .control .clen ≤ length bytes - at → At (span at (at + h .control .clen)) ≡ slotFrom bytes h k at
-  present z l = rw (marked (presentIn bytes (h .body) (h .control) k) e z, le-ltb (length bytes - at) (h .control .clen) l)
+-- a code that is found ends within the bytes
+pub found-within : (bytes : List ℕ) (at : ℕ) (c : ParseControl) {s : Slot} → found s ≡ presentRead bytes at c
+    → c .clen ≤ length bytes - at
+found-within bytes at c {s} =
+    picked (λ (a : Answer). found s ≡ unless a (codeSlot c (part bytes at (c .clen))) → c .clen ≤ length bytes - at)
+    (ltb (length bytes - at) (c .clen)) (short (c .clen) (length bytes - at)) (codeFormat c)
+    (λ _ e. let z : _≡_ {A = ℕ} 0 1 = cc in absurd (omega arith)) (λ f _. ltb-false (length bytes - at) (c .clen) f)

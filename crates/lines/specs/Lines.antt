@@ -30,9 +30,9 @@ bitsLine name values bits = name ++ numbers values ++ spacedBits bits ++ newline
 abbrev pub sLine : ℕ → ℕ → List ℕ
 sLine i bits = bitsLine (ascii "s") (i ∷ []) bits
 
--- i, j, presence, bits
+-- i, j, state, bits
 abbrev pub cLine : ℕ → ℕ → ℕ → ℕ → List ℕ
-cLine i j present bits = bitsLine (ascii "c") (i ∷ j ∷ present ∷ []) bits
+cLine i j state bits = bitsLine (ascii "c") (i ∷ j ∷ state ∷ []) bits
 
 abbrev pub deviationLines : List ℕ → List ℕ
 deviationLines ds = joined (length ds) (λ i. sLine i (getD ds i 0))

@@ -4,6 +4,7 @@ use imapb::encode::encode_imapb;
 use imapb::special::ImapbSpecial;
 use imapb::special::encode_imapb_special;
 use std::num::wrapping_add_usize;
+use std::num::wrapping_sub_usize;
 use text::part::within;
 
 // The code of every correlation.
@@ -48,4 +49,15 @@ pub(crate) fn of_specials(slots: usize, clen: usize, out: &mut [u8]) -> u64 {
         k += 1;
     }
     figure
+}
+
+// The bytes of so many codes. No pack has so many slots or so long codes that a remainder would change them.
+fn bytes_of(slots: usize, clen: usize) -> usize {
+    (slots % 0x1_0000) * (clen % 16)
+}
+
+// Special codes in the place of those that end a full pack.
+pub(crate) fn over_last(slots: usize, clen: usize, pack: &mut [u8]) {
+    let start = within(wrapping_sub_usize(pack.len(), bytes_of(slots, clen)), pack);
+    of_specials(slots, clen, &mut pack[start..]);
 }

@@ -33,6 +33,22 @@ pub(crate) fn of_words(from: u64, words: &[u64]) -> u64 {
     figure
 }
 
+// What the Rust keeps of a state: whether the slot is present.
+fn bool_of(state: u8) -> u64 {
+    if state == 0 { 0 } else { 1 }
+}
+
+// Every state, as the Rust has it.
+pub(crate) fn of_states(from: u64, states: &[u8]) -> u64 {
+    let mut figure = from;
+    let mut i: usize = 0;
+    while i < states.len() {
+        figure = add(figure, bool_of(states[i]));
+        i += 1;
+    }
+    figure
+}
+
 // Every byte.
 pub(crate) fn of_bytes(from: u64, bytes: &[u8]) -> u64 {
     let mut figure = from;

@@ -14,11 +14,18 @@ pub(crate) enum Op {
     Idle,
 }
 
+// The pack: with a value in every slot, in one of four, or with a special code in every slot.
+pub(crate) enum Kind {
+    Full,
+    Sparse,
+    Specials,
+}
+
 pub(crate) struct Job {
     pub(crate) op: Op,
     pub(crate) rows: usize,
     pub(crate) clen: usize,
-    pub(crate) sparse: bool,
+    pub(crate) kind: Kind,
     pub(crate) reps: usize,
 }
 
@@ -32,16 +39,16 @@ fn number(i: usize) -> usize {
     }
 }
 
-// The first letter of an argument that is a word.
-fn letter(i: usize) -> u8 {
+// The first letters of an argument that is a word.
+fn letters(i: usize) -> [u8; 10] {
     let mut text = [0u8; 10];
     os::arg(i, &mut text);
-    text[0]
+    text
 }
 
-// Any other word idles.
-fn op_of(letter: u8) -> Op {
-    match letter {
+// By the first letter; any other word idles.
+fn op_of(word: [u8; 10]) -> Op {
+    match word[0] {
         b'r' => Op::Read,
         b'w' => Op::Write,
         b'p' => Op::Peek,
@@ -53,6 +60,15 @@ fn op_of(letter: u8) -> Op {
     }
 }
 
+// By the third letter, since two begin alike; any other word is full.
+fn kind_of(word: [u8; 10]) -> Kind {
+    match word[2] {
+        b'a' => Kind::Sparse,
+        b'e' => Kind::Specials,
+        _ => Kind::Full,
+    }
+}
+
 // What the arguments ask for, and without them each operation three times on a small pack.
 pub(crate) fn asked() -> Job {
     if os::arg_count() < 6 {
@@ -60,15 +76,15 @@ pub(crate) fn asked() -> Job {
             op: Op::Each,
             rows: 4,
             clen: 2,
-            sparse: false,
+            kind: Kind::Full,
             reps: 3,
         };
     }
     Job {
-        op: op_of(letter(1)),
+        op: op_of(letters(1)),
         rows: number(2),
         clen: number(3),
-        sparse: letter(4) == b's',
+        kind: kind_of(letters(4)),
         reps: number(5),
     }
 }

@@ -9,6 +9,7 @@ mod turns;
 
 use figure::REFUSED;
 use job::Job;
+use job::Kind;
 use layout::pack::SdccFlp;
 use layout::triangle::corr_slots;
 use text::part::within;
@@ -33,10 +34,15 @@ fn length_of(written: u64) -> usize {
 
 // Makes the matrix and its pack, and answers the pack's length.
 fn make(job: Job, deviations: &mut [u64], correlations: &mut [u64], room: &mut [u8]) -> usize {
+    let kind = job.kind;
     sample::fill_deviations(deviations);
-    sample::fill_correlations(correlations, job.sparse);
+    sample::fill_correlations(correlations, kind);
     let written = turns::write(deviations, correlations, job.clen, room);
-    length_of(written)
+    let length = within(length_of(written), room);
+    if let Kind::Specials = kind {
+        codes::over_last(correlations.len(), job.clen, &mut room[..length]);
+    }
+    length
 }
 
 // Does the job; the figure is then taken over all that it leaves.
@@ -44,14 +50,14 @@ fn measured(
     job: Job,
     deviations: &mut [u64],
     correlations: &mut [u64],
-    presence: &mut [u8],
+    states: &mut [u8],
     pack: &mut [u8],
 ) -> u64 {
-    let repeated = turns::repeat(job, deviations, correlations, presence, pack);
+    let repeated = turns::repeat(job, deviations, correlations, states, pack);
     let over_deviations = figure::of_words(repeated, deviations);
     let over_correlations = figure::of_words(over_deviations, correlations);
-    let over_presence = figure::of_bytes(over_correlations, presence);
-    figure::of_bytes(over_presence, pack)
+    let over_states = figure::of_states(over_correlations, states);
+    figure::of_bytes(over_states, pack)
 }
 
 // The job, on rooms of the matrix's own size.
@@ -59,12 +65,12 @@ fn run(
     job: Job,
     deviations: &mut [u64],
     correlations: &mut [u64],
-    presence: &mut [u8],
+    states: &mut [u8],
     room: &mut [u8],
 ) {
     let made = make(job, deviations, correlations, room);
     let length = within(made, room);
-    let figure = measured(job, deviations, correlations, presence, &mut room[..length]);
+    let figure = measured(job, deviations, correlations, states, &mut room[..length]);
     report(length as u64, figure);
 }
 
@@ -88,7 +94,7 @@ fn room_for_correlations() -> [u64; SLOTS] {
     [0; SLOTS]
 }
 
-fn room_for_presence() -> [u8; SLOTS] {
+fn room_for_states() -> [u8; SLOTS] {
     [0; SLOTS]
 }
 
@@ -99,18 +105,18 @@ fn room_for_pack() -> [u8; BYTES] {
 fn main() {
     let mut deviations = room_for_deviations();
     let mut correlations = room_for_correlations();
-    let mut presence = room_for_presence();
+    let mut states = room_for_states();
     let mut pack = room_for_pack();
     let job = job::asked();
     let rows = within_words(job.rows, &deviations);
     let slots = corr_slots(rows as u32) as usize;
     let sent = within_words(slots, &correlations);
-    let said = within(slots, &presence);
+    let told = within(slots, &states);
     run(
         job,
         &mut deviations[..rows],
         &mut correlations[..sent],
-        &mut presence[..said],
+        &mut states[..told],
         &mut pack,
     );
 }

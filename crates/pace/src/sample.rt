@@ -1,4 +1,5 @@
 //! The matrix that is measured, as the bits of binary64s: made in whole numbers, so that it is the same everywhere.
+use crate::job::Kind;
 use numbers::conversions::nearest_binary64;
 use std::num::wrapping_sub_u64;
 
@@ -44,8 +45,8 @@ pub(crate) fn fill_deviations(deviations: &mut [u64]) {
 }
 
 // Of a sparse matrix one slot in four is present, and not the first, so that a single slot is absent.
-fn slot(k: usize, sparse: bool) -> u64 {
-    if sparse {
+fn slot(k: usize, kind: Kind) -> u64 {
+    if let Kind::Sparse = kind {
         if k % 4 != 3 {
             return 0;
         }
@@ -53,10 +54,10 @@ fn slot(k: usize, sparse: bool) -> u64 {
     correlation(k)
 }
 
-pub(crate) fn fill_correlations(correlations: &mut [u64], sparse: bool) {
+pub(crate) fn fill_correlations(correlations: &mut [u64], kind: Kind) {
     let mut k: usize = 0;
     while k < correlations.len() {
-        correlations[k] = slot(k, sparse);
+        correlations[k] = slot(k, kind);
         k += 1;
     }
 }

@@ -28,8 +28,8 @@ fn vary_pack(pack: &mut [u8]) {
     }
 }
 
-fn read(pack: &[u8], deviations: &mut [u64], correlations: &mut [u64], presence: &mut [u8]) -> u64 {
-    match decode_sdcc_flp(pack, deviations, correlations, presence) {
+fn read(pack: &[u8], deviations: &mut [u64], correlations: &mut [u64], states: &mut [u8]) -> u64 {
+    match decode_sdcc_flp(pack, deviations, correlations, states) {
         ReadAnswer::Done(read) => read.slots as u64,
         ReadAnswer::Refused(_) => REFUSED,
     }
@@ -51,10 +51,10 @@ fn each(
     clen: usize,
     deviations: &mut [u64],
     correlations: &mut [u64],
-    presence: &mut [u8],
+    states: &mut [u8],
     pack: &mut [u8],
 ) -> u64 {
-    let slots = read(pack, deviations, correlations, presence);
+    let slots = read(pack, deviations, correlations, states);
     let values = codes::of_values(correlations, clen, pack);
     let specials = codes::of_specials(correlations.len(), clen, pack);
     let length = write(deviations, correlations, clen, pack);
@@ -69,18 +69,18 @@ fn once(
     job: Job,
     deviations: &mut [u64],
     correlations: &mut [u64],
-    presence: &mut [u8],
+    states: &mut [u8],
     pack: &mut [u8],
 ) -> u64 {
     let op = job.op;
     match op {
-        Op::Read => read(pack, deviations, correlations, presence),
+        Op::Read => read(pack, deviations, correlations, states),
         Op::Write => write(deviations, correlations, job.clen, pack),
         Op::Peek => peek(pack),
         Op::Cell => cells::of_matrix(deviations, correlations),
         Op::Value => codes::of_values(correlations, job.clen, pack),
         Op::Special => codes::of_specials(correlations.len(), job.clen, pack),
-        Op::Each => each(job.clen, deviations, correlations, presence, pack),
+        Op::Each => each(job.clen, deviations, correlations, states, pack),
         Op::Idle => 0,
     }
 }
@@ -108,7 +108,7 @@ pub(crate) fn repeat(
     job: Job,
     deviations: &mut [u64],
     correlations: &mut [u64],
-    presence: &mut [u8],
+    states: &mut [u8],
     pack: &mut [u8],
 ) -> u64 {
     let mut sum: u64 = 0;
@@ -118,7 +118,7 @@ pub(crate) fn repeat(
         vary(deviations);
         vary(correlations);
         vary_pack(pack);
-        let answer = once(job, deviations, correlations, presence, pack);
+        let answer = once(job, deviations, correlations, states, pack);
         sum = figure::add(sum, answer);
         sum = figure::add(sum, word_at(correlations, left));
         sum = figure::add_byte(sum, byte_at(pack, left));

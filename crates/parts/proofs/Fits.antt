@@ -71,13 +71,13 @@ module _ (lines : Bool) (bytes : List ℕ) (i j : ℕ) where
         numbers-length (i ∷ j ∷ 0 ∷ []),
       )
 
-  pub at-length : (s : Span) → length (gap lines ++ slotText lines bytes i j (At s)) ≤ 111 + 2 * (s .end - s .start)
-  at-length s =
+  pub at-length : (s : Span) (x : ℕ) → length (gap lines ++ slotText lines bytes i j (At s x)) ≤ 111 + 2 * (s .end - s .start)
+  at-length s x =
       omega (
         arith,
         gap-length lines,
-        length-append (gap lines) (slotText lines bytes i j (At s)),
-        length-append (ascii "slot" ++ numbers (i ∷ j ∷ 1 ∷ [])) (presentText lines bytes s),
-        numbers-length (i ∷ j ∷ 1 ∷ []),
+        length-append (gap lines) (slotText lines bytes i j (At s x)),
+        length-append (ascii "slot" ++ numbers (i ∷ j ∷ x ∷ [])) (presentText lines bytes s),
+        numbers-length (i ∷ j ∷ x ∷ []),
         present-length lines bytes s,
       )

@@ -38,7 +38,7 @@ abbrev pub presentText : Bool → List ℕ → Span → List ℕ
 presentText lines bytes s =
     numbers (s .start ∷ s .end ∷ []) ++ pick lines (space ++ hexText bytes s) []
 
--- i, j, presence, and where the code stands
+-- i, j, the state, and where the code stands
 abbrev pub slotText : Bool → List ℕ → ℕ → ℕ → SlotCode → List ℕ
 slotText lines bytes i j Absent = ascii "slot" ++ numbers (i ∷ j ∷ 0 ∷ []) ++ ascii " absent"
-slotText lines bytes i j (At s) = ascii "slot" ++ numbers (i ∷ j ∷ 1 ∷ []) ++ presentText lines bytes s
+slotText lines bytes i j (At s x) = ascii "slot" ++ numbers (i ∷ j ∷ x ∷ []) ++ presentText lines bytes s

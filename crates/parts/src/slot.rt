@@ -66,8 +66,8 @@ pub fn put_slot(
             let paired = put_values(3, [i, j, 0], named, out);
             put_text(b" absent", paired, out)
         }
-        SlotCode::At(span) => {
-            let paired = put_values(3, [i, j, 1], named, out);
+        SlotCode::At { span, state } => {
+            let paired = put_values(3, [i, j, state as u64], named, out);
             put_present(lines, bytes, span, paired, out)
         }
     }

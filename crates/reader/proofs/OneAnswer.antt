@@ -11,7 +11,7 @@ use Rattle.answers.proofs.OneToOne.{listed-one, done-not-refused}
 use Rattle.layout.specs.declared.pack.SdccFlp.{SdccFlp}
 use Rattle.reader.specs.declared.read.ReadAnswer.{ReadAnswer}
 use Rattle.reader.specs.declared.read.ReadAnswer.the-variants.{Done, Refused}
-use Rattle.elements.specs.Elements.{headOf, correlations, presence}
+use Rattle.elements.specs.Elements.{headOf, correlations, states}
 use Rattle.deviations.specs.declared.form.DeviationRange.{DeviationRange}
 use Rattle.deviations.specs.declared.form.DeviationRange.the-variants.{Unknown, Known}
 use Rattle.deviations.specs.Range.{deviationsOver}
@@ -39,13 +39,13 @@ left-one : (front lent : List ℕ) {x y : Answer} {l m : List ℕ} → x ≡ y �
 left-one front lent e p q = p ∙ ap (λ (a : Answer). leaves a front lent) e ∙ sym q
 
 -- what is left by two answers that are listed alike
-module _ (range : DeviationRange) (bytes ds cs ps : List ℕ) {r r′ : ReadAnswer} {l l′ m m′ n n′ : List ℕ} where
-  both-one : Meets r range bytes ds cs ps l m n → Meets r′ range bytes ds cs ps l′ m′ n′ → (r ≡ r′) × (_≡_ {A = List ℕ × List ℕ × List ℕ} (l, m, n) (l′, m′, n′))
+module _ (range : DeviationRange) (bytes ds cs ss : List ℕ) {r r′ : ReadAnswer} {l l′ m m′ n n′ : List ℕ} where
+  both-one : Meets range bytes ds cs ss r l m n → Meets range bytes ds cs ss r′ l′ m′ n′ → (r ≡ r′) × (_≡_ {A = List ℕ × List ℕ × List ℕ} (l, m, n) (l′, m′, n′))
   both-one p q =
       let e = p .0 ∙ sym (q .0) in
       let d = left-one (deviationsOver range bytes (headOf bytes)) ds e (p .1) (q .1) in
       let c = left-one (correlations bytes (headOf bytes)) cs e (p .2) (q .2) in
-      let b = left-one (presence bytes (headOf bytes)) ps e (p .3) (q .3) in
+      let b = left-one (states bytes (headOf bytes)) ss e (p .3) (q .3) in
       (read-one r r′ e, λ i. (d i, c i, b i))
 
 pub decode-sdcc-flp-one : OneAnswer {L = List ℕ × List ℕ × List ℕ} decode-sdcc-flp.Learnt (λ κs s. (now (s .1 .0), now (s .1 .1 .0), now (s .1 .1 .1 .0)))

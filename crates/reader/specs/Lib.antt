@@ -2,4 +2,3 @@ pub mod Rules
 pub mod Listed
 pub mod Read
 pub mod Rows
-pub mod Fill

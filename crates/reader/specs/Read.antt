@@ -3,7 +3,7 @@ use Prim.Native.Nat.{ℕ}
 use mathlib.Core.List.{List}
 use Rattle.answers.specs.Table.{Answer}
 use Rattle.answers.specs.Lent.{leaves}
-use Rattle.elements.specs.Elements.{headOf, correlations, presence}
+use Rattle.elements.specs.Elements.{headOf, correlations, states}
 use Rattle.deviations.specs.declared.form.DeviationRange.{DeviationRange}
 use Rattle.deviations.specs.declared.form.DeviationRange.the-variants.{Unknown}
 use Rattle.deviations.specs.Range.{deviationsOver}
@@ -18,5 +18,5 @@ module _ (a : Answer) (bytes lent : List ℕ) where
   abbrev pub leftCorrelations : List ℕ
   leftCorrelations = leaves a (correlations bytes (headOf bytes)) lent
 
-  abbrev pub leftPresence : List ℕ
-  leftPresence = leaves a (presence bytes (headOf bytes)) lent
+  abbrev pub leftStates : List ℕ
+  leftStates = leaves a (states bytes (headOf bytes)) lent

@@ -1,5 +1,5 @@
 //! The reader of SDCC-FLP packs: `decode_sdcc_flp`.
 mod fill;
-mod mapped;
+mod plain;
 pub mod read;
-mod slots;
+mod store;

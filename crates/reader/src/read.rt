@@ -1,20 +1,17 @@
-//! `decode_sdcc_flp`, and the reader that is lent a range: the rules in their order, and then one pass that stores.
+//! `decode_sdcc_flp`, and the reader that is lent a range: the rules in their order, and only then what is stored.
 use crate::fill::fill_deviations;
-use crate::slots::fill_slots;
-use answers::Check;
+use crate::store::store_slots;
 use answers::Refusal;
 use deviations::form::DeviationRange;
 use elements::head::pack_of;
 use layout::pack::SdccFlp;
 use rules::decide::Decided;
-use rules::decide::decide;
-use rules::rooms::check_rooms;
 ghost use mathlib.Core.Path.{_≡_};
 ghost use lib.ListN.{length};
 ghost use Rattle.reader.specs.Listed.{readListed};
 ghost use Rattle.deviations.specs.declared.form.DeviationRange.the-variants.{Known};
 ghost use Rattle.reader.specs.Rules.{readAnswerIn, readAnswer};
-ghost use Rattle.reader.specs.Read.{leftDeviationsIn, leftDeviations, leftCorrelations, leftPresence};
+ghost use Rattle.reader.specs.Read.{leftDeviationsIn, leftDeviations, leftCorrelations, leftStates};
 
 pub enum ReadAnswer {
     Done(SdccFlp),
@@ -27,29 +24,20 @@ fn read_pack(
     range: DeviationRange,
     deviations: &mut [u64],
     correlations: &mut [u64],
-    presence: &mut [u8],
+    states: &mut [u8],
 ) -> ReadAnswer
     ensures { λ r. ⌜ (readListed r
         ≡ readAnswerIn range (now (bytes .entry)) (length (now (deviations .entry)))
-        (length (now (correlations .entry))) (length (now (presence .entry))))
+        (length (now (correlations .entry))) (length (now (states .entry))))
         × (now (deviations .exit)
         ≡ leftDeviationsIn range (readListed r) (now (bytes .entry)) (now (deviations .entry)))
         × (now (correlations .exit) ≡ leftCorrelations (readListed r) (now (bytes .entry)) (now (correlations .entry)))
-        × (now (presence .exit) ≡ leftPresence (readListed r) (now (bytes .entry)) (now (presence .entry))) ⌝ }
+        × (now (states .exit) ≡ leftStates (readListed r) (now (bytes .entry)) (now (states .entry))) ⌝ }
 {
-    let decided = decide(bytes, range);
-    match decided {
-        Decided::Refused(refusal) => return ReadAnswer::Refused(refusal),
+    let stored = store_slots(bytes, range, deviations.len(), correlations, states);
+    match stored {
+        Decided::Refused(refusal) => ReadAnswer::Refused(refusal),
         Decided::Pack { places, form } => {
-            let rooms = check_rooms(
-                places.head,
-                deviations.len(),
-                correlations.len(),
-                presence.len(),
-            );
-            if let Check::Refused(refusal) = rooms {
-                return ReadAnswer::Refused(refusal);
-            }
             let pack = pack_of(places.head);
             fill_deviations(
                 bytes,
@@ -59,16 +47,7 @@ fn read_pack(
                 pack.deviations,
                 deviations,
             );
-            fill_slots(
-                bytes,
-                places.head.body,
-                places.codes,
-                places.head.control,
-                pack.slots,
-                correlations,
-                presence,
-            );
-            return ReadAnswer::Done(pack);
+            ReadAnswer::Done(pack)
         }
     }
 }
@@ -78,21 +57,21 @@ pub fn decode_sdcc_flp(
     bytes: &[u8],
     deviations: &mut [u64],
     correlations: &mut [u64],
-    presence: &mut [u8],
+    states: &mut [u8],
 ) -> ReadAnswer
     ensures { λ r. ⌜ (readListed r
         ≡ readAnswer (now (bytes .entry)) (length (now (deviations .entry))) (length (now (correlations .entry)))
-        (length (now (presence .entry))))
+        (length (now (states .entry))))
         × (now (deviations .exit) ≡ leftDeviations (readListed r) (now (bytes .entry)) (now (deviations .entry)))
         × (now (correlations .exit) ≡ leftCorrelations (readListed r) (now (bytes .entry)) (now (correlations .entry)))
-        × (now (presence .exit) ≡ leftPresence (readListed r) (now (bytes .entry)) (now (presence .entry))) ⌝ }
+        × (now (states .exit) ≡ leftStates (readListed r) (now (bytes .entry)) (now (states .entry))) ⌝ }
 {
     read_pack(
         bytes,
         DeviationRange::Unknown,
         deviations,
         correlations,
-        presence,
+        states,
     )
 }
 
@@ -103,21 +82,21 @@ pub fn decode_sdcc_flp_in(
     max: f64,
     deviations: &mut [u64],
     correlations: &mut [u64],
-    presence: &mut [u8],
+    states: &mut [u8],
 ) -> ReadAnswer
     ensures { λ r. ⌜ (readListed r
         ≡ readAnswerIn (Known min max) (now (bytes .entry)) (length (now (deviations .entry)))
-        (length (now (correlations .entry))) (length (now (presence .entry))))
+        (length (now (correlations .entry))) (length (now (states .entry))))
         × (now (deviations .exit)
         ≡ leftDeviationsIn (Known min max) (readListed r) (now (bytes .entry)) (now (deviations .entry)))
         × (now (correlations .exit) ≡ leftCorrelations (readListed r) (now (bytes .entry)) (now (correlations .entry)))
-        × (now (presence .exit) ≡ leftPresence (readListed r) (now (bytes .entry)) (now (presence .entry))) ⌝ }
+        × (now (states .exit) ≡ leftStates (readListed r) (now (bytes .entry)) (now (states .entry))) ⌝ }
 {
     read_pack(
         bytes,
         DeviationRange::Known { min, max },
         deviations,
         correlations,
-        presence,
+        states,
     )
 }

@@ -22,9 +22,9 @@ pub(crate) fn read_in(
     pack: &[u8],
     deviations: &mut [u64],
     correlations: &mut [u64],
-    presence: &mut [u8],
+    states: &mut [u8],
 ) -> ReadAnswer {
     let min = float_of(request.value);
     let max = float_of(request.second);
-    decode_sdcc_flp_in(pack, min, max, deviations, correlations, presence)
+    decode_sdcc_flp_in(pack, min, max, deviations, correlations, states)
 }

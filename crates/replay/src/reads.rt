@@ -19,7 +19,7 @@ fn room_for_deviations() -> [u64; ROWS] {
     [WORD; ROWS]
 }
 
-fn room_for_presence() -> [u8; SLOTS] {
+fn room_for_states() -> [u8; SLOTS] {
     [MARK; SLOTS]
 }
 
@@ -29,12 +29,12 @@ fn decode(
     pack: &[u8],
     deviations: &mut [u64],
     correlations: &mut [u64],
-    presence: &mut [u8],
+    states: &mut [u8],
 ) -> ReadAnswer {
     if request.form == READ_IN {
-        return read_in(request, pack, deviations, correlations, presence);
+        return read_in(request, pack, deviations, correlations, states);
     }
-    decode_sdcc_flp(pack, deviations, correlations, presence)
+    decode_sdcc_flp(pack, deviations, correlations, states)
 }
 
 // As much is lent as the request says.
@@ -44,18 +44,18 @@ fn read(
     pack: &[u8],
     deviations: &mut [u64],
     correlations: &mut [u64],
-    presence: &mut [u8],
+    states: &mut [u8],
 ) -> ReadAnswer {
     mark_words(correlations, lent.correlations);
     let rows = within_words(lent.deviations as usize, deviations);
     let slots = within_words(lent.correlations as usize, correlations);
-    let flags = within(lent.presence as usize, presence);
+    let told = within(lent.states as usize, states);
     decode(
         request,
         pack,
         &mut deviations[..rows],
         &mut correlations[..slots],
-        &mut presence[..flags],
+        &mut states[..told],
     )
 }
 
@@ -67,11 +67,11 @@ pub(crate) fn put_read(
     out: &mut [u8],
 ) -> usize {
     let mut deviations = room_for_deviations();
-    let mut presence = room_for_presence();
+    let mut states = room_for_states();
     let lent = Lent {
         deviations: request.rows,
         correlations: request.slots,
-        presence: request.room,
+        states: request.room,
     };
     let read = read(
         request,
@@ -79,7 +79,7 @@ pub(crate) fn put_read(
         pack,
         &mut deviations,
         correlations,
-        &mut presence,
+        &mut states,
     );
-    put_pack(lent, read, &deviations, correlations, &presence, at, out)
+    put_pack(lent, read, &deviations, correlations, &states, at, out)
 }

@@ -13,11 +13,10 @@ use lib.ListN.{length, take, drop, getD, List·getD-eq-default}
 use lib.Seq.{take-at}
 use Rattle.answers.specs.Lent.{tab, leaves}
 use Rattle.answers.specs.Listed.{listed, written}
-use Rattle.answers.specs.Table.{Answer, pick, next}
+use Rattle.answers.specs.Table.{Answer}
 use Rattle.answers.specs.declared.Refusal.{Refusal}
 use Rattle.answers.specs.declared.Written.the-variants as written-as
 use Rattle.answers.proofs.Lent.{length-tab, getD-tab}
-use Rattle.answers.proofs.Next.{next-zero, next-passed}
 use Rattle.answers.proofs.OneToOne.{refused-not-done}
 use Rattle.answers.proofs.Rules.{picked}
 use Rattle.layout.specs.Header.{matrixSize}
@@ -25,13 +24,14 @@ use Rattle.layout.specs.Size.{peeked, fitRules}
 use Rattle.layout.specs.Triangle.{slotsOf}
 use Rattle.layout.specs.declared.pack.SdccFlp.{SdccFlp}
 use Rattle.layout.proofs.RowByRow.{slots-mono}
-use Rattle.elements.specs.Elements.{headOf, deviationCount, deviations as deviationsOf, correlations as correlationsOf, presence as presenceOf, presentIn}
+use Rattle.elements.specs.Elements.{headOf, deviationCount, deviations as deviationsOf, correlations as correlationsOf, states as statesOf, codesAt}
+use Rattle.elements.proofs.States.{state-most}
 use Rattle.reader.specs.Listed.{packAnswer, readListed}
 use Rattle.reader.specs.Rules.{done, readAnswer}
 use Rattle.deviations.specs.declared.form.DeviationRange.the-variants.{Unknown}
-use Rattle.rules.specs.Rules.{elementRules, roomRules}
 use Rattle.reader.specs.declared.read.ReadAnswer.{ReadAnswer}
 use Rattle.reader.specs.declared.read.ReadAnswer.the-variants.{Done, Refused}
+use Rattle.reader.proofs.Peeked.{read-done, read-fits as fits-read}
 use Rattle.reader.proofs.Whole.{Meets}
 use Rattle.lines.specs.Lines.{refusedLine}
 use Rattle.lines.specs.Printed.{printAnswer}
@@ -45,35 +45,16 @@ module _ (bytes : List ℕ) where
   abbrev answered : Answer
   answered = readAnswer bytes maxRows maxSlots maxSlots
 
-  abbrev fromRooms : Answer
-  fromRooms = next (roomRules (headOf bytes) maxRows maxSlots maxSlots) (done (headOf bytes))
-
-  abbrev fromElements : Answer
-  fromElements = next (elementRules Unknown bytes (headOf bytes)) fromRooms
-
-  -- no rule refused, so that it carries N, the deviation count and M
-  is-done : answered .number ≡ 0 → answered ≡ done (headOf bytes)
-  is-done z =
-      let p = next-zero (fitRules bytes) fromElements z in
-      let q = next-zero (elementRules Unknown bytes (headOf bytes)) fromRooms (p .1) in
-      let r = next-zero (roomRules (headOf bytes) maxRows maxSlots maxSlots) (done (headOf bytes)) (q .1) in
-      next-passed (fitRules bytes) fromElements (p .0) ∙ next-passed (elementRules Unknown bytes (headOf bytes)) fromRooms (q .0)
-      ∙ next-passed (roomRules (headOf bytes) maxRows maxSlots maxSlots) (done (headOf bytes)) (r .0)
-
 -- the second of two tests that both fail
 second : (a b : Bool) → (a || b) ≡ false → b ≡ false
 second true b e = let z : _≡_ {A = ℕ} 0 1 = cc in absurd (omega arith)
 second false b e = e
 
--- presence is 0 or 1, and 0 past the last slot
-flag : (b : Bool) → pick b 1 0 < 10
-flag true = omega arith
-flag false = omega arith
-
-flags : (b : ℕ → Bool) (n k : ℕ) → getD (tab n (λ j. pick (b j) 1 0)) k 0 < 10
-flags b n k =
-    by-cases (decLt k n) (λ h. rw (getD-tab n (λ j. pick (b j) 1 0) k h) (flag (b k)))
-    (λ h. rw (List·getD-eq-default (tab n (λ j. pick (b j) 1 0)) 0 {n = k} (rw (length-tab n (λ j. pick (b j) 1 0)) (omega arith))) (omega arith))
+-- a state has one digit, and is 0 past the last slot
+one-digit : (f : ℕ → ℕ) → ((j : ℕ) → f j ≤ 4) → (n k : ℕ) → getD (tab n f) k 0 < 10
+one-digit f most n k =
+    by-cases (decLt k n) (λ h. rw (getD-tab n f k h) (omega (arith, most k)))
+    (λ h. rw (List·getD-eq-default (tab n f) 0 {n = k} (rw (length-tab n f) (omega arith))) (omega arith))
 
 module _ (bytes : List ℕ) (ok : isTooBig bytes ≡ false) where
   -- peek gives the rows of a pack whose size fits
@@ -83,7 +64,7 @@ module _ (bytes : List ℕ) (ok : isTooBig bytes ≡ false) where
   -- the limit of rows bounds every count
   module _ (z : answered bytes .number ≡ 0) where
     few-rows : matrixSize bytes ≤ maxRows
-    few-rows = small-rows (next-zero (fitRules bytes) (fromElements bytes) z .0)
+    few-rows = small-rows (fits-read Unknown bytes maxRows maxSlots maxSlots z)
 
     few-deviations : deviationCount (headOf bytes) ≤ maxRows
     few-deviations = picked (λ (d : ℕ). d ≤ maxRows) (eqb (headOf bytes .control .slen) 0) 0 (matrixSize bytes) (λ _. omega arith) (λ _. few-rows)
@@ -96,8 +77,8 @@ module _ (bytes : List ℕ) (ok : isTooBig bytes ≡ false) where
   read-fits =
       picked (λ (t : List ℕ). length t ≤ room) (eqb (answered bytes .number) 0) _ _
       (λ t. let z = eqb-true (answered bytes .number) 0 t in
-      pack-fits (matrixSize bytes) (deviationsOf bytes (headOf bytes)) (correlationsOf bytes (headOf bytes)) (presenceOf bytes (headOf bytes)) (few-rows z)
-      (rw length-tab (few-deviations z)) (length-tab (slotsOf (matrixSize bytes)) _) (flags (presentIn bytes (headOf bytes .body) (headOf bytes .control)) (slotsOf (matrixSize bytes))))
+      pack-fits (matrixSize bytes) (deviationsOf bytes (headOf bytes)) (correlationsOf bytes (headOf bytes)) (statesOf bytes (headOf bytes)) (few-rows z)
+      (rw length-tab (few-deviations z)) (length-tab (slotsOf (matrixSize bytes)) _) (one-digit _ (state-most bytes (headOf bytes .body) (codesAt (headOf bytes)) (headOf bytes .control)) (slotsOf (matrixSize bytes))))
       (λ _. refused-fits (answered bytes) (few-read bytes maxRows maxSlots maxSlots))
 
 -- and so does whatever is printed
@@ -119,7 +100,7 @@ pack-is : (bytes : List ℕ) (p : SdccFlp) → packAnswer p ≡ done (headOf byt
 pack-is bytes p e = let c = ap (λ (a : Answer). a .carries) e in ((cc), (cc), (cc))
 
 -- ---- the reader's contract, where it was lent room for so many rows
-pub record Lent (bytes : List ℕ) (r : ReadAnswer) (ds cs ps : List ℕ) : Type 0 where
+pub record Lent (bytes : List ℕ) (r : ReadAnswer) (ds cs ss : List ℕ) : Type 0 where
   pub small : isTooBig bytes ≡ false
   pub first : List ℕ
   pub second : List ℕ
@@ -127,11 +108,11 @@ pub record Lent (bytes : List ℕ) (r : ReadAnswer) (ds cs ps : List ℕ) : Type
   pub answer : readListed r ≡ answered bytes
   pub deviations : ds ≡ leaves (readListed r) (deviationsOf bytes (headOf bytes)) first
   pub correlations : cs ≡ leaves (readListed r) (correlationsOf bytes (headOf bytes)) second
-  pub presence : ps ≡ leaves (readListed r) (presenceOf bytes (headOf bytes)) third
+  pub states : ss ≡ leaves (readListed r) (statesOf bytes (headOf bytes)) third
 
 -- as the reader's contract gives it
 pub was-lent : (bytes a b c : List ℕ) → isTooBig bytes ≡ false → maxRows ≡ length a → maxSlots ≡ length b → maxSlots ≡ length c
-    → (r : ReadAnswer) {ds cs ps : List ℕ} → Meets r Unknown bytes a b c ds cs ps → Lent bytes r ds cs ps
+    → (r : ReadAnswer) {ds cs ss : List ℕ} → Meets Unknown bytes a b c r ds cs ss → Lent bytes r ds cs ss
 was-lent bytes a b c ok la lb lc r m =
     record {
       small = ok;
@@ -141,10 +122,10 @@ was-lent bytes a b c ok la lb lc r m =
       answer = rw (← la, ← lb, ← lc) at (m .0);
       deviations = m .1;
       correlations = m .2;
-      presence = m .3;
+      states = m .3;
     }
 
-module _ {bytes : List ℕ} {r : ReadAnswer} {ds cs ps : List ℕ} (m : Lent bytes r ds cs ps) where
+module _ {bytes : List ℕ} {r : ReadAnswer} {ds cs ss : List ℕ} (m : Lent bytes r ds cs ss) where
   -- a refusal is printed as such
   pub refused-lines : {f : Refusal} → r ≡ Refused f → refusedLine (listed f) ≡ readLines bytes
   refused-lines {f} e = sym (ap (answerLines bytes) (sym (m .answer) ∙ ap readListed e) ∙ rw (refused-not-done f))
@@ -155,7 +136,7 @@ module _ {bytes : List ℕ} {r : ReadAnswer} {ds cs ps : List ℕ} (m : Lent byt
     read-zero = sym (ap (λ (x : Answer). x .number) (sym (ap readListed e) ∙ m .answer))
 
     read-pack : (p .«matrix_size» ≡ matrixSize bytes) × (p .deviations ≡ deviationCount (headOf bytes)) × (p .slots ≡ slotsOf (matrixSize bytes))
-    read-pack = pack-is bytes p (sym (ap readListed e) ∙ m .answer ∙ is-done bytes read-zero)
+    read-pack = pack-is bytes p (sym (ap readListed e) ∙ m .answer ∙ read-done Unknown bytes maxRows maxSlots maxSlots read-zero)
 
     listed-zero : readListed r .number ≡ 0
     listed-zero = ap (λ (x : Answer). x .number) (m .answer) ∙ read-zero
@@ -178,16 +159,16 @@ module _ {bytes : List ℕ} {r : ReadAnswer} {ds cs ps : List ℕ} (m : Lent byt
         left-front (correlationsOf bytes (headOf bytes)) (m .second) (readListed r) listed-zero (m .correlations)
         (read-pack .2 ∙ sym (length-tab (slotsOf (matrixSize bytes)) _))
 
-    presence-is : take (p .slots) ps ≡ presenceOf bytes (headOf bytes)
-    presence-is =
-        left-front (presenceOf bytes (headOf bytes)) (m .third) (readListed r) listed-zero (m .presence)
+    states-are : take (p .slots) ss ≡ statesOf bytes (headOf bytes)
+    states-are =
+        left-front (statesOf bytes (headOf bytes)) (m .third) (readListed r) listed-zero (m .states)
         (read-pack .2 ∙ sym (length-tab (slotsOf (matrixSize bytes)) _))
 
     -- the rooms hold them
-    pub held : length ds ≡ maxRows → length cs ≡ maxSlots → length ps ≡ maxSlots → Held p ds cs ps
+    pub held : length ds ≡ maxRows → length cs ≡ maxSlots → length ss ≡ maxSlots → Held p ds cs ss
     held d c s =
         (rw (read-pack .0) (sym (read-pack .2)), omega (arith, deviations-within), omega (arith, slots-within), omega (arith, slots-within))
 
     -- and their lines are what is to be printed
-    pub pack-lines : heldLines p ds cs ps ≡ readLines bytes
-    pack-lines = rw (read-pack .0, deviations-are, correlations-are, presence-is, read-zero)
+    pub pack-lines : heldLines p ds cs ss ≡ readLines bytes
+    pack-lines = rw (read-pack .0, deviations-are, correlations-are, states-are, read-zero)

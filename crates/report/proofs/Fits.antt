@@ -43,19 +43,19 @@ deviations-length : (ds : List ℕ) → length ds ≤ maxRows → length (deviat
 deviations-length ds h = joined-le (λ i. sLine i (getD ds i 0)) 22 (length ds) (λ k l. s-length k (getD ds k 0) (omega arith))
 
 -- row by row
-module _ (n : ℕ) (cs ps : List ℕ) (few : n ≤ maxRows) (flags : (k : ℕ) → getD ps k 0 < 10) where
-  row-length : (i : ℕ) → i < n → length (rowLines n cs ps i) ≤ (n - 1 - i) * 27
+module _ (n : ℕ) (cs ss : List ℕ) (few : n ≤ maxRows) (digits : (k : ℕ) → getD ss k 0 < 10) where
+  row-length : (i : ℕ) → i < n → length (rowLines n cs ss i) ≤ (n - 1 - i) * 27
   row-length i h =
       joined-le _ 27 (n - 1 - i)
-      (λ k l. c-length i (i + 1 + k) (getD ps (slotOf n i (i + 1 + k)) 0) (getD cs (slotOf n i (i + 1 + k)) 0) (omega arith) (omega arith) (flags _))
+      (λ k l. c-length i (i + 1 + k) (getD ss (slotOf n i (i + 1 + k)) 0) (getD cs (slotOf n i (i + 1 + k)) 0) (omega arith) (omega arith) (digits _))
 
-  rows-length : (i : ℕ) → i ≤ n → length (joined i (rowLines n cs ps)) ≤ slotOf n i (i + 1) * 27
+  rows-length : (i : ℕ) → i ≤ n → length (joined i (rowLines n cs ss)) ≤ slotOf n i (i + 1) * 27
   rows-length zero h = omega arith
   rows-length (suc i) h =
       let e = ap (λ (x : ℕ). slotOf n x (x + 1)) (sym (add-one i)) ∙ row-next n i h in
       rw length-append (omega (arith, rows-length i (omega arith), row-length i h, e))
 
-  slots-length : length (slotLines n cs ps) ≤ slotsOf n * 27
+  slots-length : length (slotLines n cs ss) ≤ slotsOf n * 27
   slots-length = omega (arith, rows-length n (omega arith), row-within n n (omega arith))
 
 -- the slots of the most rows
@@ -64,18 +64,18 @@ unfolding slotsOf
 most-slots = refl
 
 -- a pack of so few rows fits
-pub pack-fits : (n : ℕ) (ds cs ps : List ℕ) → n ≤ maxRows → length ds ≤ maxRows → length cs ≡ slotsOf n → ((k : ℕ) → getD ps k 0 < 10)
-    → length (packLines n ds cs ps) ≤ room
-pack-fits n ds cs ps few rows slots flags =
+pub pack-fits : (n : ℕ) (ds cs ss : List ℕ) → n ≤ maxRows → length ds ≤ maxRows → length cs ≡ slotsOf n → ((k : ℕ) → getD ss k 0 < 10)
+    → length (packLines n ds cs ss) ≤ room
+pack-fits n ds cs ss few rows slots digits =
     let m : slotsOf n ≤ maxSlots = rw most-slots at (slots-mono {m = n} {n = maxRows} few) in
     let a = nLine n (length ds) (length cs) in
     omega (
       arith,
-      length-append (a ++ deviationLines ds) (slotLines n cs ps),
+      length-append (a ++ deviationLines ds) (slotLines n cs ss),
       length-append a (deviationLines ds),
       n-length n (length ds) (length cs) (omega arith) (omega arith) (omega arith),
       deviations-length ds rows,
-      slots-length n cs ps few flags,
+      slots-length n cs ss few digits,
     )
 
 -- ---- a refusal
@@ -100,7 +100,7 @@ few-turns bytes at size format f zero = record { most = omega arith }
 few-turns bytes at size format f (suc n) = let q = few-turns bytes at size format f n in let p = f n in search (few-answer, few-pick)
 
 -- and so is the reader's, whatever it is
-pub few-read : (bytes : List ℕ) (ds cs ps : ℕ) → Few (readAnswer bytes ds cs ps)
-few-read bytes ds cs ps =
+pub few-read : (bytes : List ℕ) (ds cs ss : ℕ) → Few (readAnswer bytes ds cs ss)
+few-read bytes ds cs ss =
     rw (fit-answers bytes, size-answers, element-answers Unknown bytes (headOf bytes))
     (search (few-answer, few-pick, few-head, few-turns) depth 20)

@@ -16,13 +16,13 @@ joined-same : {f g : ℕ → List ℕ} (n : ℕ) → ((k : ℕ) → k < n → f 
 joined-same zero h = refl
 joined-same (suc n) h = ap₂ _++_ (joined-same n (λ k l. h k (omega arith))) (h n (omega arith))
 
-module _ (n m : ℕ) (cs ps : List ℕ) (h : slotsOf n ≤ m) where
-  row-front : (i : ℕ) → i < n → rowLines n (take m cs) (take m ps) i ≡ rowLines n cs ps i
+module _ (n m : ℕ) (cs ss : List ℕ) (h : slotsOf n ≤ m) where
+  row-front : (i : ℕ) → i < n → rowLines n (take m cs) (take m ss) i ≡ rowLines n cs ss i
   row-front i l =
       joined-same (n - 1 - i)
       (λ k q.
       let b : slotOf n i (i + 1 + k) < m = omega (arith, row-by-row n .below i (i + 1 + k) (omega arith, omega arith)) in
-      rw (getD-take m ps (slotOf n i (i + 1 + k)) 0 b, getD-take m cs (slotOf n i (i + 1 + k)) 0 b))
+      rw (getD-take m ss (slotOf n i (i + 1 + k)) 0 b, getD-take m cs (slotOf n i (i + 1 + k)) 0 b))
 
-  pub slots-front : slotLines n (take m cs) (take m ps) ≡ slotLines n cs ps
+  pub slots-front : slotLines n (take m cs) (take m ss) ≡ slotLines n cs ss
   slots-front = joined-same n row-front

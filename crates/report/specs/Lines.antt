@@ -15,9 +15,9 @@ tooBigLine = ascii "too big for this program\n"
 
 -- ---- a pack that was read
 -- the slots row by row: of row i those of j from i+1 to N-1
-module _ (n : ℕ) (cs ps : List ℕ) where
+module _ (n : ℕ) (cs ss : List ℕ) where
   abbrev pub slotLine : ℕ → ℕ → List ℕ
-  slotLine i j = cLine i j (getD ps (slotOf n i j) 0) (getD cs (slotOf n i j) 0)
+  slotLine i j = cLine i j (getD ss (slotOf n i j) 0) (getD cs (slotOf n i j) 0)
 
   abbrev pub rowLines : ℕ → List ℕ
   rowLines i = joined (n - 1 - i) (λ k. slotLine i (i + 1 + k))
@@ -26,14 +26,14 @@ module _ (n : ℕ) (cs ps : List ℕ) where
   slotLines = joined n rowLines
 
 abbrev pub packLines : ℕ → List ℕ → List ℕ → List ℕ → List ℕ
-packLines n ds cs ps = nLine n (length ds) (length cs) ++ deviationLines ds ++ slotLines n cs ps
+packLines n ds cs ss = nLine n (length ds) (length cs) ++ deviationLines ds ++ slotLines n cs ss
 
 -- ---- a pack whose numbers stand at the front of rooms that hold them
 abbrev pub heldLines : SdccFlp → List ℕ → List ℕ → List ℕ → List ℕ
-heldLines p ds cs ps =
-    packLines (p .«matrix_size») (take (p .deviations) ds) (take (p .slots) cs) (take (p .slots) ps)
+heldLines p ds cs ss =
+    packLines (p .«matrix_size») (take (p .deviations) ds) (take (p .slots) cs) (take (p .slots) ss)
 
 abbrev pub Held : SdccFlp → List ℕ → List ℕ → List ℕ → Type 0
-Held p ds cs ps =
+Held p ds cs ss =
     (slotsOf (p .«matrix_size») ≡ p .slots) × (p .deviations ≤ length ds)
-    × (p .slots ≤ length cs) × (p .slots ≤ length ps)
+    × (p .slots ≤ length cs) × (p .slots ≤ length ss)

@@ -9,7 +9,7 @@ use Rattle.layout.specs.declared.size.Peek.{Peek}
 use Rattle.layout.specs.declared.size.Peek.the-variants.{Size, Nothing}
 use Rattle.layout.specs.Header.{matrixSize}
 use Rattle.layout.specs.Size.{peeked}
-use Rattle.elements.specs.Elements.{headOf, deviations, correlations, presence}
+use Rattle.elements.specs.Elements.{headOf, deviations, correlations, states}
 use Rattle.reader.specs.Rules.{readAnswer}
 use Rattle.lines.specs.Lines.{refusedLine}
 use Rattle.report.specs.Lines.{tooBigLine, packLines}
@@ -38,7 +38,7 @@ module _ (bytes : List ℕ) where
   answerLines a =
       pick (eqb (a .number) 0)
       (packLines (matrixSize bytes)
-      (deviations bytes (headOf bytes)) (correlations bytes (headOf bytes)) (presence bytes (headOf bytes)))
+      (deviations bytes (headOf bytes)) (correlations bytes (headOf bytes)) (states bytes (headOf bytes)))
       (refusedLine a)
 
   abbrev pub readLines : List ℕ

@@ -17,20 +17,20 @@ fn put_row(
     rows: usize,
     first: usize,
     correlations: &[u64],
-    presence: &[u8],
+    states: &[u8],
     at: usize,
     out: &mut [u8],
 ) -> usize
     requires { ⌜ (i < rows) × (first ≡ slotOf rows i (i + 1))
-        × (slotsOf rows ≤ length (now correlations)) × (slotsOf rows ≤ length (now presence)) ⌝ }
-    ensures { λ r. ⌜ Put (rowLines rows (now (correlations .entry)) (now (presence .entry)) i)
+        × (slotsOf rows ≤ length (now correlations)) × (slotsOf rows ≤ length (now states)) ⌝ }
+    ensures { λ r. ⌜ Put (rowLines rows (now (correlations .entry)) (now (states .entry)) i)
         at (now (out .entry)) r (now (out .exit)) ⌝ }
 {
     let mut next = within(at, out);
     let mut slot = first;
     let mut j = i + 1;
     while j < rows {
-        let values = [i as u64, j as u64, presence[slot] as u64];
+        let values = [i as u64, j as u64, states[slot] as u64];
         next = put_line(b'c', 3, values, correlations[slot], next, out);
         slot += 1;
         j += 1;
@@ -39,16 +39,16 @@ fn put_row(
 }
 
 // Row by row; the first slot of each row is carried along.
-fn put_slots(rows: usize, correlations: &[u64], presence: &[u8], at: usize, out: &mut [u8]) -> usize
-    requires { ⌜ (slotsOf rows ≤ length (now correlations)) × (slotsOf rows ≤ length (now presence)) ⌝ }
-    ensures { λ r. ⌜ Put (slotLines rows (now (correlations .entry)) (now (presence .entry)))
+fn put_slots(rows: usize, correlations: &[u64], states: &[u8], at: usize, out: &mut [u8]) -> usize
+    requires { ⌜ (slotsOf rows ≤ length (now correlations)) × (slotsOf rows ≤ length (now states)) ⌝ }
+    ensures { λ r. ⌜ Put (slotLines rows (now (correlations .entry)) (now (states .entry)))
         at (now (out .entry)) r (now (out .exit)) ⌝ }
 {
     let mut next = within(at, out);
     let mut first: usize = 0;
     let mut i: usize = 0;
     while i < rows {
-        next = put_row(i, rows, first, correlations, presence, next, out);
+        next = put_row(i, rows, first, correlations, states, next, out);
         first += rows - 1 - i;
         i += 1;
     }
@@ -60,16 +60,16 @@ pub(crate) fn put_pack(
     pack: SdccFlp,
     deviations: &[u64],
     correlations: &[u64],
-    presence: &[u8],
+    states: &[u8],
     out: &mut [u8],
 ) -> usize
-    requires { ⌜ Held pack (now deviations) (now correlations) (now presence) ⌝ }
-    ensures { λ r. ⌜ Put (heldLines pack (now (deviations .entry)) (now (correlations .entry)) (now (presence .entry)))
+    requires { ⌜ Held pack (now deviations) (now correlations) (now states) ⌝ }
+    ensures { λ r. ⌜ Put (heldLines pack (now (deviations .entry)) (now (correlations .entry)) (now (states .entry)))
         0 (now (out .entry)) r (now (out .exit)) ⌝ }
 {
     let rows = pack.matrix_size as usize;
     let count = pack.deviations;
     let counted = put_counts(rows, count, pack.slots, 0, out);
     let rowed = put_rows(&deviations[..count], counted, out);
-    put_slots(rows, correlations, presence, rowed, out)
+    put_slots(rows, correlations, states, rowed, out)
 }

@@ -54,7 +54,7 @@ fn room_for_correlations() -> [u64; MAX_SLOTS]
     [0; MAX_SLOTS]
 }
 
-fn room_for_presence() -> [u8; MAX_SLOTS]
+fn room_for_states() -> [u8; MAX_SLOTS]
     ensures { λ r. ⌜ 2016 ≡ length r ⌝ }
 {
     [0; MAX_SLOTS]
@@ -67,10 +67,10 @@ fn put_read(bytes: &[u8], out: &mut [u8]) -> usize
 {
     let mut deviations = room_for_deviations();
     let mut correlations = room_for_correlations();
-    let mut presence = room_for_presence();
-    let read = decode_sdcc_flp(bytes, &mut deviations, &mut correlations, &mut presence);
+    let mut states = room_for_states();
+    let read = decode_sdcc_flp(bytes, &mut deviations, &mut correlations, &mut states);
     match read {
-        ReadAnswer::Done(pack) => put_pack(pack, &deviations, &correlations, &presence, out),
+        ReadAnswer::Done(pack) => put_pack(pack, &deviations, &correlations, &states, out),
         ReadAnswer::Refused(refusal) => put_refusal(refusal, 0, out),
     }
 }

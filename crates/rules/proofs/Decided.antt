@@ -14,9 +14,10 @@ use Rattle.answers.specs.Table.{Answer, answer, short, wholes, pick, passes}
 use Rattle.imapb.specs.Tables.{supported}
 use Rattle.layout.specs.declared.control.ParseControl.{ParseControl}
 use Rattle.elements.specs.declared.head.Head.{Head}
-use Rattle.elements.specs.Elements.{codesAt, presentCount, isIeee, ieee, part, codeBits}
+use Rattle.elements.specs.Elements.{codesAt, presentCount, isIeee, ieee, part, codeSlot}
 use Rattle.rules.specs.Turns.{turnsRule}
-use Rattle.elements.specs.Numbers.{correlationNumber}
+use Rattle.elements.specs.Numbers.{refusalOf}
+use Rattle.elements.specs.Slots.{presentRead}
 use Rattle.elements.specs.Formats.{deviationFormat, codeFormat}
 use Rattle.deviations.specs.declared.form.DeviationRange.{DeviationRange}
 use Rattle.deviations.specs.Range.{lentRule, formatOver, rowPart}
@@ -60,13 +61,13 @@ by-form range bytes at c z (suc n) = rw (by-form range bytes at c z n, form-rule
 
 -- as the pack says: by the first deviation
 pub by-first-deviation : (bytes : List ℕ) (at : ℕ) (c : ParseControl) (n : ℕ)
-    → formRule bytes at c plain n ≡ turnsRule (formNumber bytes at c plain 0) n (c .slen) (length bytes - at)
+    → formRule bytes at c plain n ≡ turnsRule (refusalOf (formNumber bytes at c plain 0)) n (c .slen) (length bytes - at)
 by-first-deviation bytes at c n =
     in-turn bytes at (c .slen) (deviationFormat c) (deviation-format c) n (ieee (c .slen) (part bytes at (c .slen)))
 
 module _ (bytes : List ℕ) (h : Head) where
   pub by-first-code : ruleJ bytes h
-      ≡ turnsRule (correlationNumber bytes (codesAt h) (h .control)) (presentCount bytes h) (h .control .clen) (length bytes - codesAt h)
+      ≡ turnsRule (refusalOf (presentRead bytes (codesAt h) (h .control))) (presentCount bytes h) (h .control .clen) (length bytes - codesAt h)
   by-first-code =
       in-turn bytes (codesAt h) (h .control .clen) (codeFormat (h .control)) (code-format (h .control)) (presentCount bytes h)
-      (codeBits (h .control) (part bytes (codesAt h) (h .control .clen)))
+      (codeSlot (h .control) (part bytes (codesAt h) (h .control .clen)))

@@ -1,6 +1,6 @@
 -- What a pack that passes rules h) to k) holds: its elements, whole and in formats that are read.
 -- Assumes nothing.
-use mathlib.Core.Path.{_≡_, refl, ap}
+use mathlib.Core.Path.{_≡_, refl}
 use mathlib.Core.List.{List}
 use mathlib.Core.Logic.{inl, inr, by-cases}
 use Prim.Native.Nat.{ℕ, zero, suc, _+_, _-_, _*_, _≤_, _<_}
@@ -94,13 +94,13 @@ held range bytes h z w e =
     record { deviations = ds .0; each = ds .1; slots = record { whole = cs .0; format = λ p. passed (code-format k) (cs .1 0 p) } }
 
 -- ---- rule l)
-pub record Rooms (h : Head) (ds cs ps : ℕ) : Type 0 where
+pub record Rooms (h : Head) (ds cs ss : ℕ) : Type 0 where
   pub deviations : deviationCount h ≤ ds
   pub correlations : slotsOf (h .n) ≤ cs
-  pub presence : slotsOf (h .n) ≤ ps
+  pub states : slotsOf (h .n) ≤ ss
 
-rooms-tell : (h : Head) (ds cs ps : ℕ) → Says (λ _. Rooms h ds cs ps) (roomRules h ds cs ps)
-rooms-tell h ds cs ps = search (rules, ltb-false) depth 7
+rooms-tell : (h : Head) (ds cs ss : ℕ) → Says (λ _. Rooms h ds cs ss) (roomRules h ds cs ss)
+rooms-tell h ds cs ss = search (rules, ltb-false) depth 7
 
-pub rooms : (h : Head) (ds cs ps : ℕ) → roomRules h ds cs ps ≡ passes → Rooms h ds cs ps
-rooms h ds cs ps e = rooms-tell h ds cs ps .done (ap (λ (x : Answer). x .number) e)
+pub rooms : (h : Head) (ds cs ss : ℕ) → roomRules h ds cs ss .number ≡ 0 → Rooms h ds cs ss
+rooms h ds cs ss z = rooms-tell h ds cs ss .done z

@@ -13,8 +13,9 @@ use lib.Arith.{digits-mod}
 use lib.Dec.{eqb, ltb, eqb·suc-zero}
 use lib.ListN.{length}
 use Rattle.answers.specs.Table.{Answer, short, pick, passes, next}
+use Rattle.answers.specs.Outcome.{unless}
 use Rattle.rules.specs.Turns.{turnsRule}
-use Rattle.elements.specs.Numbers.{bits, refused, refusalOf, element}
+use Rattle.elements.specs.Numbers.{refusalOf, element}
 use Rattle.rules.specs.Rules.{inTurn}
 
 -- elements of no bytes are never short
@@ -66,8 +67,8 @@ module _ (bytes : List ℕ) (at size : ℕ) where
       ]
 
   -- the law, for both rules
-  pub in-turn : (format : Answer) → Format format → (n value : ℕ)
-      → inTurn bytes at size (λ _. format) n ≡ turnsRule (element bytes at size format value) n size (length bytes - at)
+  pub in-turn : (format : Answer) → Format format → (n : ℕ) {A : Type 0} (value : A)
+      → inTurn bytes at size (λ _. format) n ≡ turnsRule (refusalOf (element bytes at size format value)) n size (length bytes - at)
   in-turn format f zero value = refl
   in-turn format f (suc n) value =
       elim (decLe size (length bytes - at)) [
@@ -76,7 +77,7 @@ module _ (bytes : List ℕ) (at size : ℕ) where
       ]
     where
       go : size ≤ length bytes - at → Format format → inTurn bytes at size (λ _. format) (suc n)
-          ≡ next (refusalOf (pick (eqb (format .number) 0) (bits value) (refused format))) (pick (ltb (length bytes - at) (suc n * size)) (short size ((length bytes - at) % size)) passes)
+          ≡ next (refusalOf (unless format value)) (pick (ltb (length bytes - at) (suc n * size)) (short size ((length bytes - at) % size)) passes)
       go h (inr e) = rw (bad-format format n h e, e, e)
       go h (inl e) =
           rw e

@@ -3,19 +3,17 @@
 use mathlib.Core.Path.{_≡_, sym, _∙_}
 use mathlib.Core.List.{List, [], _∷_}
 use Prim.Native.Nat.{ℕ, suc, _+_, _-_, _*_, _<_}
-use native.Mathlib.Omega.{arith}
-use borrow.Author.Tests.{eqb-true}
-use lib.Dec.{eqb, ltb}
+use lib.Dec.{ltb}
 use lib.ListN.{length}
 use Rattle.answers.specs.Listed.{listed}
-use Rattle.answers.specs.Table.{Answer, short, wholes, pick, passes}
+use Rattle.answers.specs.Table.{Answer, short, wholes, passes}
 use Rattle.answers.specs.declared.Refusal.{Refusal}
 use Rattle.answers.proofs.Next.{IsRule, says-pick, says-refused}
 use Rattle.answers.proofs.OneToOne.{refused-not-done}
-use Rattle.answers.proofs.Rules.{picked}
+use Rattle.answers.proofs.Outcome.{found-tells, refused-tells}
 use Rattle.layout.specs.declared.control.ParseControl.{ParseControl}
 use Rattle.elements.specs.Elements.{part}
-use Rattle.elements.specs.Numbers.{Read, bits, refused, numberListed, elementRule}
+use Rattle.elements.specs.Numbers.{numberListed, elementRule}
 use Rattle.elements.specs.declared.number.Number.{Number}
 use Rattle.elements.specs.declared.number.Number.the-variants.{Bits, Refused}
 use Rattle.deviations.specs.declared.form.DeviationForm.{DeviationForm}
@@ -24,18 +22,6 @@ use Rattle.deviations.specs.Form.{formListed, formFormat, formNumber}
 use Rattle.deviations.proofs.Formed.{form-says}
 use Rattle.rules.specs.Decided.{formRule}
 use Rattle.rules.proofs.InTurn.{turns-stop}
-
--- what a number tells of its rule
-module _ (rule : Answer) (value : ℕ) where
-  number-tells : {b : ℕ} → bits b ≡ pick (eqb (rule .number) 0) (bits value) (refused rule) → rule .number ≡ 0
-  number-tells {b} =
-      picked (λ (r : Read). bits b ≡ r → rule .number ≡ 0) (eqb (rule .number) 0) (bits value) (refused rule)
-      (λ t _. eqb-true (rule .number) 0 t) (λ _ e. absurd (let z : _≡_ {A = ℕ} 0 1 = cc in omega arith))
-
-  refusal-tells : {a : Answer} → refused a ≡ pick (eqb (rule .number) 0) (bits value) (refused rule) → rule ≡ a
-  refusal-tells {a} =
-      picked (λ (r : Read). refused a ≡ r → rule ≡ a) (eqb (rule .number) 0) (bits value) (refused rule)
-      (λ _ e. absurd (let z : _≡_ {A = ℕ} 0 1 = cc in omega arith)) (λ _ e. cc)
 
 module _ (bytes : List ℕ) (at : ℕ) (c : ParseControl) (form : DeviationForm) (row : ℕ) (passed : formRule bytes at c (formListed form) row ≡ passes) where
   abbrev place : ℕ
@@ -58,9 +44,9 @@ module _ (bytes : List ℕ) (at : ℕ) (c : ParseControl) (form : DeviationForm)
 
   module _ {r : Number} (e : numberListed r ≡ formNumber bytes place c (formListed form) row) where
     pub row-passes : {b : ℕ} → r ≡ Bits b → formRule bytes at c (formListed form) (suc row) ≡ passes
-    row-passes h = up-to ∙ row-says .done (number-tells rowRule _ (rw h at e))
+    row-passes h = up-to ∙ row-says .done (found-tells rowRule _ (rw h at e) .0)
 
     pub row-stops : {x : Refusal} → r ≡ Refused x → (n : ℕ) → row < n → listed x ≡ formRule bytes at c (formListed form) n
     row-stops {x} h n l =
-        let k : formRule bytes at c (formListed form) (suc row) ≡ listed x = up-to ∙ refusal-tells rowRule _ (rw h at e) in
+        let k : formRule bytes at c (formListed form) (suc row) ≡ listed x = up-to ∙ refused-tells rowRule _ (rw h at e) in
         sym (turns-stop bytes at (c .slen) (λ i. formFormat (formListed form) c i (rowPart bytes at c i)) row n l (rw (k, refused-not-done x)) ∙ k)

@@ -68,10 +68,10 @@ abbrev pub packRules : DeviationRange → List ℕ → Answer
 packRules range bytes =
     next (lentRule range) (next (fitRules bytes) (elementRules range bytes (headOf bytes)))
 
--- l) the first short buffer among deviations, correlations, presence: 5
+-- l) the first short buffer among deviations, correlations, states: 5
 abbrev pub roomRules : Head → ℕ → ℕ → ℕ → Answer
-roomRules h ds cs ps =
+roomRules h ds cs ss =
     pick (ltb ds (deviationCount h)) (answer 5 (wholes (deviationCount h ∷ ds ∷ [])))
     (pick (ltb cs (slotsOf (h .n))) (answer 5 (wholes (slotsOf (h .n) ∷ cs ∷ [])))
-    (pick (ltb ps (slotsOf (h .n))) (answer 5 (wholes (slotsOf (h .n) ∷ ps ∷ [])))
+    (pick (ltb ss (slotsOf (h .n))) (answer 5 (wholes (slotsOf (h .n) ∷ ss ∷ [])))
     passes))

@@ -2,11 +2,10 @@
 use Prim.Native.Nat.{ℕ, _*_, _%_}
 use lib.Dec.{eqb, ltb}
 use Rattle.answers.specs.Table.{Answer, short, pick, passes, next}
-use Rattle.elements.specs.Numbers.{Read, refusalOf}
 
--- the first element tells of the others; where it is read, only their bytes can be short, and those before the one
+-- the first element's answer tells of the others; where it passes, only their bytes can be short, and those before the one
 -- that is short are whole
-abbrev pub turnsRule : Read → ℕ → ℕ → ℕ → Answer
+abbrev pub turnsRule : Answer → ℕ → ℕ → ℕ → Answer
 turnsRule first count size left =
     pick (eqb count 0) passes
-    (next (refusalOf first) (pick (ltb left (count * size)) (short size (left % size)) passes))
+    (next first (pick (ltb left (count * size)) (short size (left % size)) passes))

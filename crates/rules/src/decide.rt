@@ -11,10 +11,12 @@ use elements::head::Opened;
 use elements::head::Places;
 use elements::head::deviation_count;
 use elements::head::open_pack;
-use elements::number::correlation_at;
+use elements::number::check_number;
 use elements::number::deviation_at;
 use elements::number::left;
 use elements::present::present_count;
+use elements::slot::check_slot;
+use elements::slot::correlation_at;
 use layout::control::ParseControl;
 use layout::rule::Rule;
 use layout::rule::Ruling;
@@ -24,7 +26,8 @@ ghost use Prim.Native.Nat.{_-_, _*_, _<_, _^_};
 ghost use lib.ListN.{length};
 ghost use Rattle.answers.specs.Listed.{checked};
 ghost use Rattle.elements.specs.Held.{Placed};
-ghost use Rattle.elements.specs.Numbers.{correlationNumber};
+ghost use Rattle.elements.specs.Numbers.{refusalOf};
+ghost use Rattle.elements.specs.Slots.{presentRead};
 ghost use Rattle.layout.specs.Ruled.{ruled};
 ghost use Rattle.elements.specs.Elements.{deviationCount};
 ghost use Rattle.deviations.specs.Form.{formListed};
@@ -69,7 +72,7 @@ fn deviations_held(bytes: &[u8], places: Places, form: DeviationForm) -> Check
     if let DeviationForm::Mapped(_) = form {
         return rows_in_turn(bytes, at, control, form, count);
     }
-    let first = deviation_at(bytes, at, control);
+    let first = check_number(deviation_at(bytes, at, control));
     in_turn(first, count, control.slen as usize, left(bytes, at))
 }
 
@@ -77,10 +80,10 @@ fn deviations_held(bytes: &[u8], places: Places, form: DeviationForm) -> Check
 fn codes_held(bytes: &[u8], control: ParseControl, at: usize, present: usize) -> Check
     requires { ⌜ present * control .clen < 2 ^ 64 ⌝ }
     ensures { λ r. ⌜ checked r
-        ≡ turnsRule (correlationNumber (now (bytes .entry)) at control) present (control .clen)
+        ≡ turnsRule (refusalOf (presentRead (now (bytes .entry)) at control)) present (control .clen)
         (length (now (bytes .entry)) - at) ⌝ }
 {
-    let first = correlation_at(bytes, at, control);
+    let first = check_slot(correlation_at(bytes, at, control));
     in_turn(first, present, control.clen as usize, left(bytes, at))
 }
 

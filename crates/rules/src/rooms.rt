@@ -8,8 +8,8 @@ ghost use Rattle.answers.specs.Listed.{checked};
 ghost use Rattle.rules.specs.Rules.{roomRules};
 
 // The first short buffer.
-pub fn check_rooms(head: Head, deviations: usize, correlations: usize, presence: usize) -> Check
-    ensures { λ r. ⌜ checked r ≡ roomRules head deviations correlations presence ⌝ }
+pub fn check_rooms(head: Head, deviations: usize, correlations: usize, states: usize) -> Check
+    ensures { λ r. ⌜ checked r ≡ roomRules head deviations correlations states ⌝ }
 {
     let pack = pack_of(head);
     if deviations < pack.deviations {
@@ -24,10 +24,10 @@ pub fn check_rooms(head: Head, deviations: usize, correlations: usize, presence:
             got: correlations,
         });
     }
-    if presence < pack.slots {
+    if states < pack.slots {
         return Check::Refused(Refusal::BufferTooSmall {
             needed: pack.slots,
-            got: presence,
+            got: states,
         });
     }
     Check::Passes

@@ -11,21 +11,20 @@ ghost use Prim.Native.Nat.{_*_, _≤_, _<_, _^_};
 ghost use lib.ListN.{length};
 ghost use Rattle.answers.specs.Listed.{checked};
 ghost use Rattle.layout.specs.Size.{maxRows};
-ghost use Rattle.elements.specs.Numbers.{numberListed};
 ghost use Rattle.deviations.specs.Form.{formListed};
 ghost use Rattle.rules.specs.Decided.{formRule};
 ghost use Rattle.rules.specs.Turns.{turnsRule};
 
-// `count` elements of `size` bytes, of which the first is given, with so many bytes left for all.
-pub(crate) fn in_turn(first: Number, count: usize, size: usize, left: usize) -> Check
+// `count` elements of `size` bytes, of which the first's answer is given, with so many bytes left for all.
+pub(crate) fn in_turn(first: Check, count: usize, size: usize, left: usize) -> Check
     requires { ⌜ count * size < 2 ^ 64 ⌝ }
-    ensures { λ r. ⌜ checked r ≡ turnsRule (numberListed first) count size left ⌝ }
+    ensures { λ r. ⌜ checked r ≡ turnsRule (checked first) count size left ⌝ }
 {
     if count == 0 {
         return Check::Passes;
     }
-    let Number::Bits(_) = first else {
-        return check_number(first);
+    let Check::Passes = first else {
+        return first;
     };
     let all = count * size;
     if left < all {

@@ -29,11 +29,11 @@ abbrev pub pairAt : ℕ → ℕ → Pair
 pairAt rows zero = pair 0 1
 pairAt rows (suc k) = nextPair rows (pairAt rows k)
 
--- i, j, presence, bits
+-- i, j, state, bits
 abbrev pub slotReply : Pair → ℕ → ℕ → Reply
-slotReply p present bits = reply 45 (p .i) (p .j) present bits
+slotReply p state bits = reply 45 (p .i) (p .j) state bits
 
 abbrev pub slotLines : ℕ → ℕ → List ℕ → List ℕ → List ℕ
-slotLines rows count cs ps =
-    joined (min (min count (length cs)) (length ps))
-    (λ k. replyText (slotReply (pairAt rows k) (getD ps k 0) (getD cs k 0)))
+slotLines rows count cs ss =
+    joined (min (min count (length cs)) (length ss))
+    (λ k. replyText (slotReply (pairAt rows k) (getD ss k 0) (getD cs k 0)))

@@ -19,15 +19,15 @@ packOf (Refused _) = record { «matrix_size» = 0; deviations = 0; slots = 0 }
 
 -- of what is lent, the marks are to stand behind the pack's own
 abbrev pub isTouched : Lent → SdccFlp → List ℕ → List ℕ → List ℕ → Bool
-isTouched lent p ds cs ps =
+isTouched lent p ds cs ss =
     unmarkedFrom wordMark (p .deviations) (lent .deviations) ds
     || (unmarkedFrom wordMark (p .slots) (lent .correlations) cs
-    || unmarkedFrom byteMark (p .slots) (lent .presence) ps)
+    || unmarkedFrom byteMark (p .slots) (lent .states) ss)
 
 -- the counts or the refusal, the deviations, the slots
 abbrev pub readText : Lent → ReadAnswer → List ℕ → List ℕ → List ℕ → List ℕ
-readText lent r ds cs ps =
+readText lent r ds cs ss =
     replyText (readReply r)
     ++ deviationLines (packOf r .deviations) ds
-    ++ slotLines (packOf r .«matrix_size») (packOf r .slots) cs ps
-    ++ touchedText (isTouched lent (packOf r) ds cs ps)
+    ++ slotLines (packOf r .«matrix_size») (packOf r .slots) cs ss
+    ++ touchedText (isTouched lent (packOf r) ds cs ss)

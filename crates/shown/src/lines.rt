@@ -62,14 +62,14 @@ fn next_pair(pair: Pair, rows: u64) -> Pair
     }
 }
 
-fn slot(pair: Pair, present: u8, bits: u64) -> Reply
-    ensures { λ r. ⌜ r ≡ slotReply pair present bits ⌝ }
+fn slot(pair: Pair, state: u8, bits: u64) -> Reply
+    ensures { λ r. ⌜ r ≡ slotReply pair state bits ⌝ }
 {
     Reply {
         form: SLOT,
         a: pair.i,
         b: pair.j,
-        c: present as u64,
+        c: state as u64,
         d: bits,
     }
 }
@@ -79,20 +79,20 @@ pub fn put_slots(
     rows: u64,
     count: usize,
     correlations: &[u64],
-    presence: &[u8],
+    states: &[u8],
     at: usize,
     out: &mut [u8],
 ) -> usize
-    ensures { λ r. ⌜ Put (slotLines rows count (now (correlations .entry)) (now (presence .entry)))
+    ensures { λ r. ⌜ Put (slotLines rows count (now (correlations .entry)) (now (states .entry)))
         at (now (out .entry)) r (now (out .exit)) ⌝ }
 {
     let held = within_words(count, correlations);
-    let end = within(held, presence);
+    let end = within(held, states);
     let mut next = within(at, out);
     let mut pair = Pair { i: 0, j: 1 };
     let mut k: usize = 0;
     while k < end {
-        let line = slot(pair, presence[k], correlations[k]);
+        let line = slot(pair, states[k], correlations[k]);
         pair = next_pair(pair, rows);
         k += 1;
         next = put_reply(line, next, out);

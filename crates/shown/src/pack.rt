@@ -15,7 +15,7 @@ ghost use Rattle.shown.specs.Pack.{packOf, isTouched, readText};
 pub struct Lent {
     pub deviations: u64,
     pub correlations: u64,
-    pub presence: u64,
+    pub states: u64,
 }
 
 // What was read; nothing of a pack that was refused.
@@ -38,10 +38,10 @@ fn touched(
     pack: SdccFlp,
     deviations: &[u64],
     correlations: &[u64],
-    presence: &[u8],
+    states: &[u8],
 ) -> bool
     ensures { λ r. ⌜ r ≡ isTouched lent pack
-        (now (deviations .entry)) (now (correlations .entry)) (now (presence .entry)) ⌝ }
+        (now (deviations .entry)) (now (correlations .entry)) (now (states .entry)) ⌝ }
 {
     if marks::words_changed(deviations, pack.deviations, lent.deviations) {
         return true;
@@ -49,7 +49,7 @@ fn touched(
     if marks::words_changed(correlations, pack.slots, lent.correlations) {
         return true;
     }
-    marks::changed(presence, pack.slots, lent.presence)
+    marks::changed(states, pack.slots, lent.states)
 }
 
 pub fn put_pack(
@@ -57,12 +57,12 @@ pub fn put_pack(
     read: ReadAnswer,
     deviations: &[u64],
     correlations: &[u64],
-    presence: &[u8],
+    states: &[u8],
     at: usize,
     out: &mut [u8],
 ) -> usize
     ensures { λ r. ⌜ Put (readText lent read
-        (now (deviations .entry)) (now (correlations .entry)) (now (presence .entry)))
+        (now (deviations .entry)) (now (correlations .entry)) (now (states .entry)))
         at (now (out .entry)) r (now (out .exit)) ⌝ }
 {
     let pack = pack_of(read);
@@ -72,12 +72,12 @@ pub fn put_pack(
         pack.matrix_size,
         pack.slots,
         correlations,
-        presence,
+        states,
         rowed,
         out,
     );
     put_touched(
-        touched(lent, pack, deviations, correlations, presence),
+        touched(lent, pack, deviations, correlations, states),
         lined,
         out,
     )

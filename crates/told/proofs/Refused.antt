@@ -8,11 +8,10 @@ use Rattle.answers.specs.Table.{Answer, next}
 use Rattle.answers.proofs.Next.{next-next}
 use Rattle.layout.specs.declared.rule.Rule.{Rule}
 use Rattle.layout.specs.Ruled.{refusedBy, unnamed}
-use Rattle.layout.specs.Size.{fitRules}
 use Rattle.elements.specs.Elements.{headOf}
 use Rattle.deviations.specs.declared.form.DeviationRange.the-variants.{Unknown}
 use Rattle.rules.specs.Named.{packRuled}
-use Rattle.rules.specs.Rules.{elementRules, roomRules}
+use Rattle.rules.specs.Rules.{packRules, roomRules}
 use Rattle.rules.proofs.Refused.{refused-by, pack-unnamed}
 use Rattle.reader.specs.Rules.{done, readAnswer}
 
@@ -23,7 +22,7 @@ module _ (bytes : List ℕ) (d c p : ℕ) where
   -- a) to k), and behind them the rooms
   pub by-rules : readAnswer bytes d c p ≡ next (unnamed (packRuled bytes)) behind
   by-rules =
-      sym (next-next (fitRules bytes) (elementRules Unknown bytes (headOf bytes)) behind)
+      next-next (packRules Unknown bytes) (roomRules (headOf bytes) d c p) (done (headOf bytes))
       ∙ ap (λ (a : Answer). next a behind) (sym (pack-unnamed bytes))
 
   -- the answer of the rule that refuses is the reader's

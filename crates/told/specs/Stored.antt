@@ -1,5 +1,5 @@
 -- Stored examples of what the program prints: one of each of the fourteen ways to be refused, and packs that are accepted,
--- of each mode, full and sparse.
+-- of each mode, full and sparse, and one whose slots are of each state that is no value.
 use Prim.Native.Nat.{ℕ}
 use mathlib.Core.List.{List, [], _∷_, _++_}
 use lib.ListN.{replicate}
@@ -98,6 +98,16 @@ stored =
     ++ ascii "slot 0 1 0 absent\n"
     ++ ascii "slot 0 2 1 15 16 60\n"
     ++ ascii "slot 1 2 0 absent\n")
+    ∷ prints (0x03 ∷ 0x91 ∷ 0x00 ∷ 0xE8 ∷ 0xE2 ∷ 0x81 ∷ [])
+    (ascii "accepted 6\n"
+    ++ ascii "n 0 1\n"
+    ++ ascii "control 1 3\n"
+    ++ ascii "vector 3 3\n"
+    ++ ascii "deviations 3 3\n"
+    ++ ascii "codes 3 6\n"
+    ++ ascii "slot 0 1 2 3 4 E8\n"
+    ++ ascii "slot 0 2 3 4 5 E2\n"
+    ++ ascii "slot 1 2 4 5 6 81\n")
     ∷ []
 
 abbrev pub texts : List Example → List (List ℕ)

@@ -26,6 +26,7 @@ use Rattle.elements.specs.Numbers.{elementRule}
 use Rattle.deviations.specs.declared.form.DeviationRange.{DeviationRange}
 use Rattle.deviations.specs.declared.form.DeviationRange.the-variants.{Unknown, Known}
 use Rattle.deviations.specs.Range.{lentRule, valueRule, formatOver, rowPart}
+use Rattle.codes.specs.Store.{storeRules}
 use Rattle.reader.specs.Rules.{done, readAnswerIn}
 use Rattle.rules.specs.Named.{ruleOf}
 use Rattle.rules.specs.Rules.{inTurn, codesRule, overRule, ruleH, ruleI, ruleJ, ruleK, elementRules, packRules, roomRules}
@@ -131,8 +132,8 @@ rules-in bytes J =
     turns-in bytes (codesAt h) (h .control .clen) (λ _. codeFormat (h .control)) (λ _. formats-in (h .control) .1) (presentCount bytes h)
 rules-in bytes K = over-in (endAt bytes (headOf bytes)) (length bytes)
 
-rooms-in : (h : Head) (d c p : ℕ) → InTable (roomRules h d c p)
-rooms-in h d c p = search table depth 20
+rooms-in : (h : Head) (d c s : ℕ) → InTable (roomRules h d c s)
+rooms-in h d c s = search table depth 20
 
 -- a) to g), and a) to k)
 fits-in : (bytes : List ℕ) → InTable (fitRules bytes)
@@ -147,14 +148,13 @@ packs-in range bytes =
     let elements = elementRules range bytes (headOf bytes) in
     in-next (lentRule range) (next (fitRules bytes) elements) (lent-in range) (in-next (fitRules bytes) elements (fits-in bytes) (elements-in range bytes))
 
-reads-in : (range : DeviationRange) (bytes : List ℕ) (d c p : ℕ) → InTable (readAnswerIn range bytes d c p)
-reads-in range bytes d c p =
-    let h = headOf bytes in
-    let elements = elementRules range bytes h in
-    let behind = next (roomRules h d c p) (done h) in
-    in-next (lentRule range) (next (fitRules bytes) (next elements behind)) (lent-in range)
-    (in-next (fitRules bytes) (next elements behind) (fits-in bytes)
-    (in-next elements behind (elements-in range bytes) (in-next (roomRules h d c p) (done h) (rooms-in h d c p) (search table depth 10))))
+stores-in : (range : DeviationRange) (bytes : List ℕ) (d c s : ℕ) → InTable (storeRules range bytes d c s)
+stores-in range bytes d c s =
+    let h = headOf bytes in in-next (packRules range bytes) (roomRules h d c s) (packs-in range bytes) (rooms-in h d c s)
+
+reads-in : (range : DeviationRange) (bytes : List ℕ) (d c s : ℕ) → InTable (readAnswerIn range bytes d c s)
+reads-in range bytes d c s =
+    in-next (storeRules range bytes d c s) (done (headOf bytes)) (stores-in range bytes d c s) (search table depth 10)
 
 -- the writer's counts, the plan, the room, and the slots
 counts-in : (n count L : ℕ) → InTable (countRules n count L)
@@ -180,6 +180,7 @@ answered =
       lent = lent-in;
       decides = packs-in;
       rooms = rooms-in;
+      stores = stores-in;
       writes = λ ds cs L room.
           let long = length (packBytes ds cs L) in
           let done = answer 0 (wholes (long ∷ [])) in

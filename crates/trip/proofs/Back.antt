@@ -11,6 +11,7 @@ use borrow.Author.Tests.{le-leb, le-ltb, ne-eqb}
 use Rattle.answers.specs.Table.{pick, passes}
 use Rattle.answers.specs.Lent.{tab}
 use Rattle.answers.proofs.Lent.{tab-same}
+use Rattle.answers.proofs.Rules.{by-bool}
 use Rattle.layout.specs.Header.{matrixSize}
 use Rattle.layout.specs.Size.{maxRows, sizeRules, fitRules}
 use Rattle.layout.specs.Triangle.{slotsOf}
@@ -19,6 +20,7 @@ use Rattle.elements.specs.Elements.{presentBefore, headOf, deviationCount}
 use Rattle.deviations.specs.declared.form.DeviationRange.the-variants.{Unknown}
 use Rattle.rules.specs.Rules.{elementRules, roomRules}
 use Rattle.rules.proofs.InTurn.{all-held}
+use Rattle.slots.specs.Slots.{sent}
 use Rattle.writer.specs.Pack.{element1, element2, formBytes}
 use Rattle.trip.specs.Found.{controlFor, HeadFound, BodyFound}
 use Rattle.trip.specs.Back.{Back}
@@ -96,8 +98,8 @@ module _ (ds cs : List ℕ) (L : ℕ) (sparse : Bool) (rows : length ds ≤ maxR
       record {
         answers = λ d c p i j k. rw (fit-passes, elements-pass, rooms-pass d c p i j k, head .control, head .size, ← count);
         deviations = tab-is rows-found (values .deviations);
-        presence = tab-is slots-found (values .presence);
-        correlations = λ ranged. tab-is slots-found (λ k h. values .correlations k h (ranged k h));
+        states = λ ranged. tab-is slots-found (λ k h. rw (values .slots k h (ranged k h)) (by-bool (sent sparse cs k) (λ t. rw t) (λ f. rw f)));
+        correlations = λ ranged. tab-is slots-found (λ k h. rw (values .slots k h (ranged k h)) (by-bool (sent sparse cs k) (λ t. rw t) (λ f. rw f)));
       }
 
 -- a pack, in either form

@@ -7,11 +7,11 @@ use native.Mathlib.Omega.{arith}
 use lib.ListN.{length, drop, length-append, List·getD-append}
 use borrow.Author.Tests.{eq-eqb, ne-eqb}
 use Rattle.answers.specs.Lent.{over, tab}
-use Rattle.answers.specs.Table.{Answer, next}
+use Rattle.answers.specs.Table.{Answer}
 use Rattle.answers.proofs.Lent.{length-tab, getD-tab}
-use Rattle.answers.proofs.Next.{next-zero, next-passed}
+use Rattle.answers.proofs.Next.{next-zero}
 use Rattle.layout.specs.Header.{matrixSize, controlOf, bodyAt, headRules}
-use Rattle.layout.specs.Size.{maxRows, sizeRules, fitRules}
+use Rattle.layout.specs.Size.{maxRows, sizeRules}
 use Rattle.layout.specs.declared.pack.SdccFlp.{SdccFlp}
 use Rattle.layout.specs.Triangle.{slotOf, slotsOf, IsPair}
 use Rattle.layout.proofs.Fits.{fits-tells}
@@ -20,9 +20,9 @@ use Rattle.layout.proofs.RowByRow.{row-by-row}
 use Rattle.elements.specs.Elements.{headOf, deviationCount, deviations, correlations}
 use Rattle.elements.specs.Listed.{packOf}
 use Rattle.reader.specs.Listed.{packAnswer}
-use Rattle.reader.specs.Rules.{done, readAnswer}
+use Rattle.reader.specs.Rules.{readAnswer}
 use Rattle.deviations.specs.declared.form.DeviationRange.the-variants.{Unknown}
-use Rattle.rules.specs.Rules.{elementRules, roomRules}
+use Rattle.reader.proofs.Peeked.{read-done, read-fits}
 use Rattle.reader.proofs.OneAnswer.{pack-one}
 use Rattle.matrix.specs.Lookup.{number, entryAnswer}
 use Rattle.matrix.proofs.Cells.{entry-held, entry-none, no-row, no-column, diagonal, pair}
@@ -72,26 +72,17 @@ module _ (bytes ds₀ cs₀ : List ℕ) (rows : matrixSize bytes ≤ maxRows) wh
       }
 
 -- a pack that was read has no more rows than the limit
-rows-read : (bytes : List ℕ) (d c p : ℕ) → readAnswer bytes d c p .number ≡ 0 → matrixSize bytes ≤ maxRows
-rows-read bytes d c p e =
-    let h = headOf bytes in
+rows-read : (bytes : List ℕ) (d c s : ℕ) → readAnswer bytes d c s .number ≡ 0 → matrixSize bytes ≤ maxRows
+rows-read bytes d c s e =
     let R = length bytes - bodyAt bytes in
-    let fit = next-zero (fitRules bytes) (next (elementRules Unknown bytes h) (next (roomRules h d c p) (done h))) e .0 in
-    let size = next-zero (headRules bytes) (sizeRules (matrixSize bytes) R (controlOf bytes)) (rw (fit-answers bytes) at fit) .1 in
+    let size = next-zero (headRules bytes) (sizeRules (matrixSize bytes) R (controlOf bytes)) (rw (fit-answers bytes) at (read-fits Unknown bytes d c s e)) .1 in
     fits-tells (matrixSize bytes) R (controlOf bytes) size .rows
 
 -- every cell of a pack that was read
-pub cells-read : (bytes ds₀ cs₀ ps₀ : List ℕ) → readAnswer bytes (length ds₀) (length cs₀) (length ps₀) .number ≡ 0 → CellsRead bytes ds₀ cs₀
-cells-read bytes ds₀ cs₀ ps₀ e = cells bytes ds₀ cs₀ (rows-read bytes (length ds₀) (length cs₀) (length ps₀) e)
+pub cells-read : (bytes ds₀ cs₀ ss₀ : List ℕ) → readAnswer bytes (length ds₀) (length cs₀) (length ss₀) .number ≡ 0 → CellsRead bytes ds₀ cs₀
+cells-read bytes ds₀ cs₀ ss₀ e = cells bytes ds₀ cs₀ (rows-read bytes (length ds₀) (length cs₀) (length ss₀) e)
 
 -- the pack that the reader gives is the one looked up in
-pub pack-read : (bytes : List ℕ) (d c p : ℕ) (pack : SdccFlp) → packAnswer pack ≡ readAnswer bytes d c p → pack ≡ packOf (headOf bytes)
-pack-read bytes d c p pack e =
-    let h = headOf bytes in
-    let rooms = roomRules h d c p in
-    let elements = elementRules Unknown bytes h in
-    let fits = next-zero (fitRules bytes) (next elements (next rooms (done h))) (ap (λ (a : Answer). a .number) (sym e)) in
-    let held = next-zero elements (next rooms (done h)) (fits .1) in
-    let roomy = next-zero rooms (done h) (held .1) in
-    pack-one pack (packOf h)
-    (e ∙ next-passed (fitRules bytes) (next elements (next rooms (done h))) (fits .0) ∙ next-passed elements (next rooms (done h)) (held .0) ∙ next-passed rooms (done h) (roomy .0))
+pub pack-read : (bytes : List ℕ) (d c s : ℕ) (pack : SdccFlp) → packAnswer pack ≡ readAnswer bytes d c s → pack ≡ packOf (headOf bytes)
+pack-read bytes d c s pack e =
+    pack-one pack (packOf (headOf bytes)) (e ∙ read-done Unknown bytes d c s (ap (λ (a : Answer). a .number) (sym e)))

@@ -66,7 +66,7 @@ use Rattle.layout.proofs.triangle.corr_slots.Reads as corr-slots
 use Rattle.layout.proofs.triangle.triangle_slot.Reads as triangle-slot
 use Rattle.layout.proofs.pack.bounded_slots.Reads as bounded-slots
 use Rattle.layout.proofs.rule.by.Reads as by
-use Rattle.elements.proofs.OneAnswer.{open-pack-one, deviation-count-one, pack-of-one, left-one, check-number-one, value-bits-one, deviation-at-one, correlation-at-one, slot-at-one, presence-of-one, present-count-one}
+use Rattle.elements.proofs.OneAnswer.{open-pack-one, deviation-count-one, pack-of-one, left-one, check-number-one, value-bits-one, deviation-at-one, check-slot-one, state-of-one, slot-of-one, correlation-at-one, slot-at-one, is-present-one, present-count-one}
 use Rattle.elements.proofs.head.open_pack.Reads as open-pack
 use Rattle.elements.proofs.head.deviation_count.Reads as deviation-count
 use Rattle.elements.proofs.head.pack_of.Reads as pack-of
@@ -74,9 +74,12 @@ use Rattle.elements.proofs.number.left.Reads as left
 use Rattle.elements.proofs.number.check_number.Reads as check-number
 use Rattle.elements.proofs.number.value_bits.Reads as value-bits
 use Rattle.elements.proofs.number.deviation_at.Reads as deviation-at
-use Rattle.elements.proofs.number.correlation_at.Reads as correlation-at
-use Rattle.elements.proofs.number.slot_at.Reads as slot-at
-use Rattle.elements.proofs.present.presence_of.Reads as presence-of
+use Rattle.elements.proofs.slot.check_slot.Reads as check-slot
+use Rattle.elements.proofs.slot.state_of.Reads as state-of
+use Rattle.elements.proofs.slot.slot_of.Reads as slot-of
+use Rattle.elements.proofs.slot.correlation_at.Reads as correlation-at
+use Rattle.elements.proofs.slot.slot_at.Reads as slot-at
+use Rattle.elements.proofs.present.is_present.Reads as is-present
 use Rattle.elements.proofs.present.present_count.Reads as present-count
 use Rattle.deviations.proofs.OneAnswer.{check-deviation-range-one, deviation-form-one, deviation-in-one}
 use Rattle.deviations.proofs.form.check_deviation_range.Reads as check-deviation-range
@@ -90,6 +93,9 @@ use Rattle.explain.proofs.OneAnswer.{explain-one, slot-code-one, behind-one}
 use Rattle.explain.proofs.explain.explain.Reads as explain
 use Rattle.explain.proofs.slot.slot_code.Reads as slot-code
 use Rattle.explain.proofs.slot.behind.Reads as behind
+use Rattle.codes.proofs.OneAnswer.{by-words-one, store-mapped-one}
+use Rattle.codes.proofs.store.by_words.Reads as by-words
+use Rattle.codes.proofs.store.store_mapped.Reads as store-mapped
 use Rattle.reader.proofs.OneAnswer.{decode-sdcc-flp-one, decode-sdcc-flp-in-one}
 use Rattle.reader.proofs.read.decode_sdcc_flp.Reads as decode-sdcc-flp
 use Rattle.reader.proofs.read.decode_sdcc_flp_in.Reads as decode-sdcc-flp-in
@@ -224,9 +230,12 @@ pub record Determined : Type 0 where
   pub check-number-determined : OneResult check-number.Learnt
   pub value-bits-determined : OneResult value-bits.Learnt
   pub deviation-at-determined : OneResult deviation-at.Learnt
+  pub check-slot-determined : OneResult check-slot.Learnt
+  pub state-of-determined : OneResult state-of.Learnt
+  pub slot-of-determined : OneResult slot-of.Learnt
   pub correlation-at-determined : OneResult correlation-at.Learnt
   pub slot-at-determined : OneResult slot-at.Learnt
-  pub presence-of-determined : OneResult presence-of.Learnt
+  pub is-present-determined : OneResult is-present.Learnt
   pub present-count-determined : OneResult present-count.Learnt
   -- the deviations, over a range or none
   pub check-deviation-range-determined : OneResult check-deviation-range.Learnt
@@ -241,6 +250,8 @@ pub record Determined : Type 0 where
   pub slot-code-determined : OneResult slot-code.Learnt
   pub behind-determined : OneResult behind.Learnt
   -- the reader
+  pub by-words-determined : OneResult by-words.Learnt
+  pub store-mapped-determined : OneAnswer {L = List ℕ × List ℕ} store-mapped.Learnt (λ κs s. (now (s .1 .1 .1 .0), now (s .1 .1 .1 .1 .0)))
   pub decode-sdcc-flp-determined : OneAnswer {L = List ℕ × List ℕ × List ℕ} decode-sdcc-flp.Learnt (λ κs s. (now (s .1 .0), now (s .1 .1 .0), now (s .1 .1 .1 .0)))
   pub decode-sdcc-flp-in-determined : OneAnswer {L = List ℕ × List ℕ × List ℕ} decode-sdcc-flp-in.Learnt (λ κs s. (now (s .1 .1 .1 .0), now (s .1 .1 .1 .1 .0), now (s .1 .1 .1 .1 .1 .0)))
   -- the writer
@@ -360,9 +371,12 @@ determined =
       check-number-determined = check-number-one;
       value-bits-determined = value-bits-one;
       deviation-at-determined = deviation-at-one;
+      check-slot-determined = check-slot-one;
+      state-of-determined = state-of-one;
+      slot-of-determined = slot-of-one;
       correlation-at-determined = correlation-at-one;
       slot-at-determined = slot-at-one;
-      presence-of-determined = presence-of-one;
+      is-present-determined = is-present-one;
       present-count-determined = present-count-one;
       check-deviation-range-determined = check-deviation-range-one;
       deviation-form-determined = deviation-form-one;
@@ -373,6 +387,8 @@ determined =
       explain-determined = explain-one;
       slot-code-determined = slot-code-one;
       behind-determined = behind-one;
+      by-words-determined = by-words-one;
+      store-mapped-determined = store-mapped-one;
       decode-sdcc-flp-determined = decode-sdcc-flp-one;
       decode-sdcc-flp-in-determined = decode-sdcc-flp-in-one;
       plan-pack-determined = plan-pack-one;

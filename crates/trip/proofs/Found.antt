@@ -71,7 +71,7 @@ module _ (ds cs : List ℕ) (L : ℕ) (sparse : Bool) where
     pub body-found : BodyFound ds cs L sparse bytes
     body-found =
         record {
-          presence = λ k h. rw (found .control, found .body, behind-is front) (present-found cs front rest sparse L least k h);
+          present = λ k h. rw (found .control, found .body, behind-is front) (present-found cs front rest sparse L least k h);
           counted = counted;
           deviations =
               λ i h.

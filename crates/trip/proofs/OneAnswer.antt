@@ -7,5 +7,5 @@ use Rattle.trip.specs.Tripped.{Lent}
 use Rattle.trip.proofs.round_trip.round_trip.Reads as round-trip
 
 pub round-trip-one : OneAnswer {L = Lent} round-trip.Learnt
-    (λ κs s. record { pack = now (s .1 .1 .1 .0); deviations = now (s .1 .1 .1 .1 .0); correlations = now (s .1 .1 .1 .1 .1 .0); presence = now (s .1 .1 .1 .1 .1 .1 .0) })
+    (λ κs s. record { pack = now (s .1 .1 .1 .0); deviations = now (s .1 .1 .1 .1 .0); correlations = now (s .1 .1 .1 .1 .1 .0); states = now (s .1 .1 .1 .1 .1 .1 .0) })
 round-trip-one κs a r r′ s s′ p q = (p .answers ∙ sym (q .answers), p .leaves ∙ sym (q .leaves))

@@ -23,7 +23,7 @@ use Rattle.imapb.proofs.Law.{kept}
 use Rattle.imapb.proofs.Near.{near}
 use Rattle.layout.specs.Size.{maxRows}
 use Rattle.layout.specs.Triangle.{slotsOf}
-use Rattle.elements.specs.Elements.{headOf, deviations, correlations, presence}
+use Rattle.elements.specs.Elements.{headOf, deviations, correlations, states}
 use Rattle.plan.specs.Zero.{isZero}
 use Rattle.slots.specs.Slots.{sent}
 use Rattle.writer.specs.Pack.{isSparse, packBytes}
@@ -88,10 +88,10 @@ module _ (L c : ℕ) where
       go true z = left-near z
       go false z = sent-near least most ranged
 
--- ---- the presence in a sparse pack: what IEEE 754 holds equal to 0 is left out
-sparse-presence : (cs : List ℕ) → tab (length cs) (λ k. pick (sent true cs k) 1 0)
+-- ---- the states of a sparse pack: what IEEE 754 holds equal to 0 is left out
+sparse-states : (cs : List ℕ) → tab (length cs) (λ k. pick (sent true cs k) 1 0)
     ≡ tab (length cs) (λ k. pick (eq (ofBits binary64 (getD cs k 0)) (fin false 0 (pos 0))) 0 1)
-sparse-presence cs = tab-same (length cs) (λ k l. rw (← (zero-is (getD cs k 0))) (turned (isZero (getD cs k 0))))
+sparse-states cs = tab-same (length cs) (λ k l. rw (← (zero-is (getD cs k 0))) (turned (isZero (getD cs k 0))))
   where
     turned : (z : Bool) → _≡_ {A = ℕ} (pick (not z) 1 0) (pick z 0 1)
     turned true = refl
@@ -122,7 +122,7 @@ module _ (ds cs : List ℕ) (L : ℕ) (s : Sendable ds cs L) where
   correlations-are = read-back .correlations (s .ranged)
 
   -- what was sent comes back
-  returned : Returned ds cs L (deviations bytes (headOf bytes)) (correlations bytes (headOf bytes)) (presence bytes (headOf bytes))
+  returned : Returned ds cs L (deviations bytes (headOf bytes)) (correlations bytes (headOf bytes)) (states bytes (headOf bytes))
   returned =
       record {
         deviations = deviations-are;
@@ -131,8 +131,8 @@ module _ (ds cs : List ℕ) (L : ℕ) (s : Sendable ds cs L) where
         correlations =
             λ k h.
             rw (correlations-are, getD-tab (length cs) slot k h) (slot-near L (getD cs k 0) sparse (s .least) (s .most) (s .ranged k h));
-        sparse = λ e. read-back .presence ∙ rw e (sparse-presence cs);
-        full = λ e. read-back .presence ∙ rw e;
+        sparse = λ e. read-back .states (s .ranged) ∙ rw e (sparse-states cs);
+        full = λ e. read-back .states (s .ranged) ∙ rw e;
       }
 
   -- no rule of the writer refuses it

@@ -19,13 +19,14 @@ use Rattle.numbers.proofs.Bytes.{word-of-bytes, bits}
 use Rattle.numbers.proofs.Exact.{nearest-fits}
 use Rattle.imapb.specs.Mapping.{codeOf, inRange}
 use Rattle.imapb.proofs.Law.{code-le-top, never-special}
-use Rattle.elements.specs.Elements.{codeBits}
+use Rattle.elements.specs.Elements.{slot, absent, codeSlot}
+use Rattle.elements.specs.declared.slot.Slot.{Slot}
 use Rattle.slots.specs.Slots.{sent}
 use Rattle.trip.specs.Found.{controlFor, HeadFound, BodyFound}
 use Rattle.trip.specs.Values.{correlationKept, ValuesFound}
 
 -- two picks that agree where the test holds
-under : (b : Bool) {x y : ℕ} → (b ≡ true → x ≡ y) → pick b x 0 ≡ pick b y 0
+under : (b : Bool) {x y : Slot} → (b ≡ true → x ≡ y) → pick b x absent ≡ pick b y absent
 under true e = e refl
 under false e = refl
 
@@ -62,7 +63,7 @@ module _ (L c : ℕ) (least : 1 ≤ L) (most : L ≤ 8) (ranged : T (inRange (of
   word-of-code = word-of-bytes L (codeOf L (ofBits binary64 c)) most ∙ mod-eq-of-lt code-small
 
   -- and give its value
-  code-reads : (cs : Bool) → codeBits (controlFor cs L) (bytesOf L (codeOf L (ofBits binary64 c))) ≡ correlationKept L c
+  code-reads : (cs : Bool) → codeSlot (controlFor cs L) (bytesOf L (codeOf L (ofBits binary64 c))) ≡ slot (correlationKept L c) 1
   code-reads cs = rw (word-of-code, never-special L least most (ofBits binary64 c) (ofBits-fits binary64 c) ranged)
 
 -- ---- the numbers of a pack
@@ -71,9 +72,8 @@ pub values-found : (ds cs : List ℕ) (L : ℕ) (sparse : Bool) → 1 ≤ L → 
 values-found ds cs L sparse least most bytes head body =
     record {
       deviations = λ i h. rw (body .deviations i h, head .control) (ap (converted binary32 binary64) (word-of-deviation (getD ds i 0)));
-      presence = λ k h. rw (body .presence k h);
-      correlations =
+      slots =
           λ k h ranged.
-          rw (body .presence k h)
+          rw (body .present k h)
           (under (sent sparse cs k) (λ s. rw (body .codes k h s, head .control) (code-reads L (getD cs k 0) least most ranged sparse)));
     }

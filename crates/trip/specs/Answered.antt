@@ -15,6 +15,7 @@ use Rattle.deviations.specs.declared.form.DeviationRange.{DeviationRange}
 use Rattle.deviations.specs.Range.{lentRule}
 use Rattle.rules.specs.Named.{ruleOf}
 use Rattle.rules.specs.Rules.{packRules, roomRules}
+use Rattle.codes.specs.Store.{storeRules}
 use Rattle.plan.specs.Rules.{planRules}
 use Rattle.slots.specs.Rules.{slotsRules}
 use Rattle.layout.specs.declared.pack.SdccFlp.{SdccFlp}
@@ -26,14 +27,15 @@ use Rattle.writer.specs.Rules.{writeAnswer}
 
 pub record Answered : Type 0 where
   -- the reader, for every byte string, all rooms and every range or none; the header and the size check within it
-  pub reads-in : (range : DeviationRange) (bytes : List ℕ) (d c p : ℕ) → InTable (readAnswerIn range bytes d c p)
-  pub reads : (bytes : List ℕ) (d c p : ℕ) → InTable (readAnswer bytes d c p)
+  pub reads-in : (range : DeviationRange) (bytes : List ℕ) (d c s : ℕ) → InTable (readAnswerIn range bytes d c s)
+  pub reads : (bytes : List ℕ) (d c s : ℕ) → InTable (readAnswer bytes d c s)
   pub heads : (bytes : List ℕ) → InTable (headRules bytes)
   pub fits : (n R : ℕ) (k : ParseControl) → InTable (sizeRules n R k)
   pub opens : (bytes : List ℕ) → InTable (fitRules bytes)
   pub lent : (range : DeviationRange) → InTable (lentRule range)
   pub decides : (range : DeviationRange) (bytes : List ℕ) → InTable (packRules range bytes)
-  pub rooms : (h : Head) (d c p : ℕ) → InTable (roomRules h d c p)
+  pub rooms : (h : Head) (d c s : ℕ) → InTable (roomRules h d c s)
+  pub stores : (range : DeviationRange) (bytes : List ℕ) (d c s : ℕ) → InTable (storeRules range bytes d c s)
   -- the writer, for all numbers and rooms; the plan and the slots within it
   pub writes : (ds cs : List ℕ) (L room : ℕ) → InTable (writeAnswer ds cs L room)
   pub plans : (n : ℕ) (cs : List ℕ) (L : ℕ) → InTable (planRules n cs L)

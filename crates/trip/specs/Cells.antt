@@ -7,7 +7,7 @@ use Rattle.answers.specs.Lent.{over}
 use Rattle.layout.specs.Header.{matrixSize, controlOf, bodyAt}
 use Rattle.layout.specs.Triangle.{slotOf, IsPair}
 use Rattle.elements.specs.Elements.{headOf, deviationsAt, codesAt}
-use Rattle.elements.specs.Elements.{deviationIn, correlationIn, deviations, correlations}
+use Rattle.elements.specs.Elements.{deviationIn, slotIn, deviations, correlations}
 use Rattle.elements.specs.Listed.{packOf}
 use Rattle.matrix.specs.Lookup.{number, noSuchCell, cellAnswer}
 
@@ -17,7 +17,7 @@ module _ (bytes : List ℕ) where
   deviationRead i = deviationIn bytes (deviationsAt (headOf bytes)) (controlOf bytes) i
 
   abbrev pub slotRead : ℕ → ℕ
-  slotRead k = correlationIn bytes (bodyAt bytes) (codesAt (headOf bytes)) (controlOf bytes) k
+  slotRead k = slotIn bytes (bodyAt bytes) (codesAt (headOf bytes)) (controlOf bytes) k .bits
 
   module _ (ds₀ cs₀ : List ℕ) where
     -- the cell of the pack, over lists that held ds₀ and cs₀ before it was read

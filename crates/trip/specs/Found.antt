@@ -36,7 +36,7 @@ module _ (ds cs : List ℕ) (L : ℕ) (sparse : Bool) where
   -- elements 3 to 5, where the head of `bytes` says that they are
   pub record BodyFound (bytes : List ℕ) : Type 0 where
     -- element 3: a slot is present exactly where it was sent; those before it are as many as their codes are long
-    pub presence : (k : ℕ) → k < length cs → presentIn bytes (bodyAt bytes) (controlOf bytes) k ≡ sent sparse cs k
+    pub present : (k : ℕ) → k < length cs → presentIn bytes (bodyAt bytes) (controlOf bytes) k ≡ sent sparse cs k
     pub counted : (k : ℕ) → k ≤ length cs
         → presentBefore bytes (bodyAt bytes) (controlOf bytes) k * controlOf bytes .clen
         ≡ length (joined k (codeBytes sparse cs L))

@@ -6,7 +6,7 @@ use lib.ListN.{length, replicate}
 use lib.Ieee.{binary64, ofBits}
 use Rattle.answers.specs.Table.{Answer, answer, short, wholes, pick}
 use Rattle.layout.specs.Size.{maxRows, maxSlots}
-use Rattle.elements.specs.Elements.{headOf, correlations, presence}
+use Rattle.elements.specs.Elements.{headOf, correlations, states}
 use Rattle.deviations.specs.declared.form.DeviationRange.{DeviationRange}
 use Rattle.deviations.specs.declared.form.DeviationRange.the-variants.{Unknown, Known}
 use Rattle.deviations.specs.Range.{deviationsOver}
@@ -19,10 +19,10 @@ pub record Outcome : Type 0 where
   pub answers : Answer
   pub deviations : List ℕ
   pub correlations : List ℕ
-  pub presence : List ℕ
+  pub states : List ℕ
 
 abbrev pub outcomeOf : Answer → List ℕ → List ℕ → List ℕ → Outcome
-outcomeOf a ds cs ps = record { answers = a; deviations = ds; correlations = cs; presence = ps }
+outcomeOf a ds cs ss = record { answers = a; deviations = ds; correlations = cs; states = ss }
 
 -- over a range or none, with room enough for any pack within the limits
 abbrev pub outcome : DeviationRange → List ℕ → Outcome
@@ -32,12 +32,12 @@ outcome range bytes = given (readAnswerIn range bytes maxRows maxSlots maxSlots)
     given a =
         pick (eqb (a .number) 0)
         (outcomeOf a (deviationsOver range bytes (headOf bytes)) (correlations bytes (headOf bytes))
-        (presence bytes (headOf bytes)))
+        (states bytes (headOf bytes)))
         (outcomeOf a [] [] [])
 
 -- done, with N, the deviation count and M
 abbrev pub done : ℕ → ℕ → ℕ → List ℕ → List ℕ → List ℕ → Outcome
-done n d m ds cs ps = outcomeOf (answer 0 (wholes (n ∷ d ∷ m ∷ []))) ds cs ps
+done n d m ds cs ss = outcomeOf (answer 0 (wholes (n ∷ d ∷ m ∷ []))) ds cs ss
 
 abbrev pub refused : Answer → Outcome
 refused a = outcomeOf a [] [] []
@@ -62,16 +62,16 @@ pub data Row : Type 0 where
   reads-in : ℕ → ℕ → List ℕ → Outcome → Row
   writes : List ℕ → List ℕ → ℕ → List ℕ → Row
 
--- a pack of two rows with one correlation: its value, and whether it is present
+-- a pack of two rows with one correlation: its value, and its state
 abbrev pair : ℕ → ℕ → Outcome
-pair c p = done 2 2 1 deviations12 (c ∷ []) (p ∷ [])
+pair c s = done 2 2 1 deviations12 (c ∷ []) (s ∷ [])
 
 abbrev pub pTable : List Row
 pTable =
     reads (0x02 ∷ 0x91 ∷ 0x04 ∷ (D ++ (0x60 ∷ []))) (pair half 1)
     ∷ reads (0x02 ∷ 0x91 ∷ 0x04 ∷ (D ++ (0x80 ∷ []))) (pair one 1)
-    ∷ reads (0x02 ∷ 0x91 ∷ 0x04 ∷ (D ++ (0x81 ∷ []))) (pair 0 1)
-    ∷ reads (0x02 ∷ 0x91 ∷ 0x04 ∷ (D ++ (0xC8 ∷ []))) (pair 0 1)
+    ∷ reads (0x02 ∷ 0x91 ∷ 0x04 ∷ (D ++ (0x81 ∷ []))) (pair 0 4)
+    ∷ reads (0x02 ∷ 0x91 ∷ 0x04 ∷ (D ++ (0xC8 ∷ []))) (pair 0 2)
     ∷ reads (0x02 ∷ 0x41 ∷ (D ++ (0x60 ∷ []))) (pair half 1)
     ∷ reads (0x02 ∷ 0x80 ∷ 0x00 ∷ []) (refused (answer 2 (wholes (0 ∷ 0 ∷ []))))
     ∷ reads (0x82 ∷ 0x01 ∷ 0x80 ∷ 0x04 ∷ []) (refused (answer 3 (wholes (257 ∷ 0 ∷ 256 ∷ []))))
@@ -97,6 +97,17 @@ shortTable =
     -- i) a code of 15 bytes, j) the second of three codes of two bytes
     ∷ reads (0x02 ∷ 0xBF ∷ 0x04 ∷ 0x80 ∷ (D ++ replicate 14 0x60)) (refused (short 15 14))
     ∷ reads (0x03 ∷ 0x92 ∷ 0x04 ∷ (D ++ (0x3F ∷ 0x80 ∷ 0x00 ∷ 0x00 ∷ 0x60 ∷ 0x00 ∷ 0x60 ∷ []))) (refused (short 2 1))
+    ∷ []
+
+-- slots that are there without a number to show for it: of mapped form, behind eight bytes or fewer, and IEEE
+abbrev pub stateTable : List Row
+stateTable =
+    -- infinity and a reserved pattern; above-maximum among three, the last of them absent
+    reads (0x02 ∷ 0x91 ∷ 0x04 ∷ (D ++ (0xE8 ∷ []))) (pair 0 2)
+    ∷ reads (0x02 ∷ 0x91 ∷ 0x04 ∷ (D ++ (0xE2 ∷ []))) (pair 0 3)
+    ∷ reads (0x03 ∷ 0xB1 ∷ 0x00 ∷ 0xC0 ∷ 0xE1 ∷ 0x60 ∷ []) (done 3 0 3 [] (0 ∷ half ∷ 0 ∷ []) (2 ∷ 1 ∷ 0 ∷ []))
+    -- an IEEE slot is a value, be it a NaN
+    ∷ reads (0x02 ∷ 0x84 ∷ 0x04 ∷ (D ++ (0x7F ∷ 0xC0 ∷ 0x00 ∷ 0x00 ∷ []))) (pair 0x7FF8000000000000 1)
     ∷ []
 
 -- packs over a range, from 0 to 50 unless said: with Slen 2 the codes 0200 and 0400 are 1 and 2, and 6400 is the top code

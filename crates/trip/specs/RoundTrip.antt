@@ -15,7 +15,7 @@ use Rattle.imapb.specs.Mapping.{inRange}
 use Rattle.imapb.specs.Precision.{Near}
 use Rattle.layout.specs.Size.{maxRows}
 use Rattle.layout.specs.Triangle.{slotsOf}
-use Rattle.elements.specs.Elements.{headOf, deviations, correlations, presence}
+use Rattle.elements.specs.Elements.{headOf, deviations, correlations, states}
 use Rattle.reader.specs.Rules.{readAnswer}
 use Rattle.writer.specs.Pack.{formBytes, isSparse, packBytes}
 use Rattle.writer.specs.Rules.{writeAnswer}
@@ -49,8 +49,8 @@ module _ (ds cs : List ℕ) (L : ℕ) where
     pub least : 1 ≤ L
     pub most : L ≤ 6
 
-  -- the deviations, the correlations and the presence that come back
-  pub record Returned (ds′ cs′ ps′ : List ℕ) : Type 0 where
+  -- the deviations, the correlations and the states that come back
+  pub record Returned (ds′ cs′ ss′ : List ℕ) : Type 0 where
     -- deviations come back as their binary32 roundings
     pub deviations : ds′ ≡ tab (length ds) (λ i. rounding (getD ds i 0))
     -- which as numbers they are
@@ -60,22 +60,22 @@ module _ (ds cs : List ℕ) (L : ℕ) where
     pub count : length cs′ ≡ length cs
     -- each at most 2^-53 above the one sent and less than one step below it
     pub correlations : (k : ℕ) → k < length cs → NearTo L (getD cs k 0) (getD cs′ k 0)
-    -- sparse: exactly the nonzero correlations are marked present
+    -- sparse: exactly the nonzero correlations are present, each with state 1
     pub sparse : isSparse ds cs L ≡ true
-        → ps′ ≡ tab (length cs) (λ k. pick (eq (ofBits binary64 (getD cs k 0)) (fin false 0 (pos 0))) 0 1)
-    -- full: all are
-    pub full : isSparse ds cs L ≡ false → ps′ ≡ tab (length cs) (λ k. 1)
+        → ss′ ≡ tab (length cs) (λ k. pick (eq (ofBits binary64 (getD cs k 0)) (fin false 0 (pos 0))) 0 1)
+    -- full: all are, each with state 1
+    pub full : isSparse ds cs L ≡ false → ss′ ≡ tab (length cs) (λ k. 1)
 
   pub record RoundTrip : Type 0 where
     -- with room enough writing succeeds, with the pack's length
     pub written : (room : ℕ) → length (packBytes ds cs L) ≤ room
         → writeAnswer ds cs L room ≡ answer 0 (wholes (length (packBytes ds cs L) ∷ []))
     -- with room enough reading the pack succeeds, with N, the deviation count and M
-    pub read : (d c p : ℕ) → length ds ≤ d → length cs ≤ c → length cs ≤ p
-        → readAnswer (packBytes ds cs L) d c p ≡ answer 0 (wholes (length ds ∷ length ds ∷ length cs ∷ []))
+    pub read : (d c s : ℕ) → length ds ≤ d → length cs ≤ c → length cs ≤ s
+        → readAnswer (packBytes ds cs L) d c s ≡ answer 0 (wholes (length ds ∷ length ds ∷ length cs ∷ []))
     -- what was sent comes back
     pub back : Returned (deviations (packBytes ds cs L) (headOf (packBytes ds cs L)))
         (correlations (packBytes ds cs L) (headOf (packBytes ds cs L)))
-        (presence (packBytes ds cs L) (headOf (packBytes ds cs L)))
+        (states (packBytes ds cs L) (headOf (packBytes ds cs L)))
     -- the pack is never longer than its full form
     pub never-longer : length (packBytes ds cs L) ≤ length (formBytes ds cs L false)

@@ -7,21 +7,21 @@ use lib.Dec.{eqb}
 use lib.ListN.{length, take}
 use Rattle.answers.specs.Table.{Answer, next}
 use Rattle.answers.specs.Lent.{leaves}
-use Rattle.elements.specs.Elements.{headOf, deviations, correlations, presence}
+use Rattle.elements.specs.Elements.{headOf, deviations, correlations, states}
 use Rattle.reader.specs.Rules.{readAnswer}
 use Rattle.writer.specs.Pack.{packBytes}
 use Rattle.writer.specs.Rules.{writeAnswer}
 use Rattle.trip.specs.RoundTrip.{Sendable, Returned}
 
--- what is lent: for the pack, and for the deviations, the correlations and the presence that come back
+-- what is lent: for the pack, and for the deviations, the correlations and the states that come back
 pub record Lent : Type 0 where
   pub pack : List ℕ
   pub deviations : List ℕ
   pub correlations : List ℕ
-  pub presence : List ℕ
+  pub states : List ℕ
 
 abbrev pub lentOf : List ℕ → List ℕ → List ℕ → List ℕ → Lent
-lentOf pack ds cs ps = record { pack = pack; deviations = ds; correlations = cs; presence = ps }
+lentOf pack ds cs ss = record { pack = pack; deviations = ds; correlations = cs; states = ss }
 
 module _ (ds cs : List ℕ) (L : ℕ) where
   -- room enough
@@ -29,14 +29,14 @@ module _ (ds cs : List ℕ) (L : ℕ) where
     pub pack : length (packBytes ds cs L) ≤ length (lent .pack)
     pub deviations : length ds ≤ length (lent .deviations)
     pub correlations : length cs ≤ length (lent .correlations)
-    pub presence : length cs ≤ length (lent .presence)
+    pub states : length cs ≤ length (lent .states)
 
   -- the writer's answer where it refuses, and otherwise the reader's
   abbrev pub tripAnswer : Lent → Answer
   tripAnswer lent =
       next (writeAnswer ds cs L (length (lent .pack)))
       (readAnswer (packBytes ds cs L) (length (lent .deviations)) (length (lent .correlations))
-      (length (lent .presence)))
+      (length (lent .states)))
 
   -- what stands there afterwards
   abbrev pub leftBy : Lent → Lent
@@ -47,7 +47,7 @@ module _ (ds cs : List ℕ) (L : ℕ) where
         pack = leaves (writeAnswer ds cs L (length (lent .pack))) bytes (lent .pack);
         deviations = leaves a (deviations bytes (headOf bytes)) (lent .deviations);
         correlations = leaves a (correlations bytes (headOf bytes)) (lent .correlations);
-        presence = leaves a (presence bytes (headOf bytes)) (lent .presence);
+        states = leaves a (states bytes (headOf bytes)) (lent .states);
       }
 
   -- `lent` before and `left` after, with the answer r
@@ -60,4 +60,4 @@ module _ (ds cs : List ℕ) (L : ℕ) where
     pub demand : Sendable ds cs L → Roomy lent
         → (r ≡ true)
         × Returned ds cs L (take (length ds) (left .deviations)) (take (length cs) (left .correlations))
-        (take (length cs) (left .presence))
+        (take (length cs) (left .states))

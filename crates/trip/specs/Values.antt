@@ -10,7 +10,7 @@ use Rattle.answers.specs.Table.{pick}
 use Rattle.numbers.specs.Conversions.{converted}
 use Rattle.imapb.specs.Mapping.{codeOf, valueOf, inRange}
 use Rattle.layout.specs.Header.{controlOf, bodyAt}
-use Rattle.elements.specs.Elements.{headOf, deviationsAt, codesAt, deviationIn, correlationIn, presenceIn}
+use Rattle.elements.specs.Elements.{headOf, deviationsAt, codesAt, deviationIn, slot, absent, slotIn}
 use Rattle.slots.specs.Slots.{sent}
 
 -- a deviation that went through a binary32, and a correlation that went through its code
@@ -23,9 +23,7 @@ correlationKept L c = toBits binary64 (valueOf L (codeOf L (ofBits binary64 c)))
 pub record ValuesFound (ds cs : List ℕ) (L : ℕ) (sparse : Bool) (bytes : List ℕ) : Type 0 where
   pub deviations : (i : ℕ) → i < length ds
       → deviationIn bytes (deviationsAt (headOf bytes)) (controlOf bytes) i ≡ deviationKept (getD ds i 0)
-  pub presence : (k : ℕ) → k < length cs
-      → presenceIn bytes (bodyAt bytes) (controlOf bytes) k ≡ pick (sent sparse cs k) 1 0
-  -- a correlation within -1 to 1; one that was not sent reads 0.0
-  pub correlations : (k : ℕ) → k < length cs → T (inRange (ofBits binary64 (getD cs k 0)))
-      → correlationIn bytes (bodyAt bytes) (codesAt (headOf bytes)) (controlOf bytes) k
-      ≡ pick (sent sparse cs k) (correlationKept L (getD cs k 0)) 0
+  -- a correlation within -1 to 1 is a value; one that was not sent is absent
+  pub slots : (k : ℕ) → k < length cs → T (inRange (ofBits binary64 (getD cs k 0)))
+      → slotIn bytes (bodyAt bytes) (codesAt (headOf bytes)) (controlOf bytes) k
+      ≡ pick (sent sparse cs k) (slot (correlationKept L (getD cs k 0)) 1) absent

@@ -50,13 +50,16 @@ fn value_back(clen: usize, sent: u64) -> u64
     f64::to_bits(x)
 }
 
-// Whether a slot came back: one left out is 0 and reads +0.0, and any other is the value of its code.
-fn same_slot(clen: usize, sent: u64, back: u64, present: u8) -> bool
+// Whether a slot came back: with state 1 it is the value of its code, and one left out is 0 and reads +0.0.
+fn same_slot(clen: usize, sent: u64, back: u64, state: u8) -> bool
     requires { ⌜ Supported clen × T (inRange (ofBits binary64 sent)) ⌝ }
-    ensures { λ r. ⌜ r ≡ slotAgrees clen sent back present ⌝ }
+    ensures { λ r. ⌜ r ≡ slotAgrees clen sent back state ⌝ }
 {
-    if present != 0 {
+    if state == 1 {
         return back == value_back(clen, sent);
+    }
+    if state != 0 {
+        return false;
     }
     if sent % 0x8000_0000_0000_0000 != 0 {
         return false;
@@ -65,14 +68,14 @@ fn same_slot(clen: usize, sent: u64, back: u64, present: u8) -> bool
 }
 
 // Whether each slot did.
-fn same_slots(clen: usize, sent: &[u64], back: &[u64], presence: &[u8]) -> bool
+fn same_slots(clen: usize, sent: &[u64], back: &[u64], states: &[u8]) -> bool
     requires { ⌜ Supported clen × InRange (now sent) × (length (now sent) ≤ length (now back))
-        × (length (now sent) ≤ length (now presence)) ⌝ }
-    ensures { λ r. ⌜ r ≡ slotsAgree clen (now (sent .entry)) (now (back .entry)) (now (presence .entry)) ⌝ }
+        × (length (now sent) ≤ length (now states)) ⌝ }
+    ensures { λ r. ⌜ r ≡ slotsAgree clen (now (sent .entry)) (now (back .entry)) (now (states .entry)) ⌝ }
 {
     let mut k: usize = 0;
     while k < sent.len() {
-        if !same_slot(clen, sent[k], back[k], presence[k]) {
+        if !same_slot(clen, sent[k], back[k], states[k]) {
             return false;
         }
         k += 1;
@@ -87,16 +90,16 @@ pub(crate) fn same_numbers(
     clen: usize,
     deviations_back: &[u64],
     correlations_back: &[u64],
-    presence: &[u8],
+    states: &[u8],
 ) -> bool
     requires { ⌜ Comparable (now deviations) (now correlations) clen (now «deviations_back»)
-        (now «correlations_back») (now presence) ⌝ }
+        (now «correlations_back») (now states) ⌝ }
     ensures { λ r. ⌜ r
         ≡ numbersAgree (now (deviations .entry)) (now (correlations .entry)) clen (now («deviations_back» .entry))
-        (now («correlations_back» .entry)) (now (presence .entry)) ⌝ }
+        (now («correlations_back» .entry)) (now (states .entry)) ⌝ }
 {
     if !same_deviations(deviations, deviations_back) {
         return false;
     }
-    same_slots(clen, correlations, correlations_back, presence)
+    same_slots(clen, correlations, correlations_back, states)
 }

@@ -14,20 +14,20 @@ pub fn round_trip(
     pack: &mut [u8],
     deviations_back: &mut [u64],
     correlations_back: &mut [u64],
-    presence: &mut [u8],
+    states: &mut [u8],
 ) -> bool
     ensures { λ r. ⌜ Tripped (now (deviations .entry)) (now (correlations .entry)) clen
         (lentOf (now (pack .entry)) (now («deviations_back» .entry)) (now («correlations_back» .entry))
-        (now (presence .entry)))
+        (now (states .entry)))
         (lentOf (now (pack .exit)) (now («deviations_back» .exit)) (now («correlations_back» .exit))
-        (now (presence .exit))) r ⌝ }
+        (now (states .exit))) r ⌝ }
 {
     let written = encode_sdcc_flp_mode2(deviations, correlations, clen, pack);
     let Written::Done(n) = written else {
         return false;
     };
     let bytes = &pack[..];
-    let read = decode_sdcc_flp(&bytes[..n], deviations_back, correlations_back, presence);
+    let read = decode_sdcc_flp(&bytes[..n], deviations_back, correlations_back, states);
     let ReadAnswer::Done(_) = read else {
         return false;
     };
@@ -37,6 +37,6 @@ pub fn round_trip(
         clen,
         deviations_back,
         correlations_back,
-        presence,
+        states,
     )
 }

@@ -7,6 +7,7 @@ use borrow.Author.Needs.{needs}
 use denote.Enum.Declared.{tagOf}
 use types.Run.{OneOf, miss}
 use lib.Ieee.{Float}
+use Rattle.answers.specs.Outcome.{found, refused}
 use Rattle.answers.specs.Table.{answer, wholes}
 use Rattle.answers.proofs.OneToOne.{refused-not-done}
 use Rattle.imapb.specs.declared.decode.DecodedImapb.{DecodedImapb}
@@ -14,7 +15,6 @@ use Rattle.imapb.specs.declared.decode.DecodedImapb.the-variants.{Value, Specia
 use Rattle.imapb.specs.Tables.{reads}
 use Rattle.imapb.proofs.decode.DecodedImapb.{the-type}
 use Rattle.elements.specs.Elements.{valueBits}
-use Rattle.elements.specs.Numbers.{bits, refused}
 use Rattle.deviations.specs.Form.{codeDeviation}
 use Rattle.deviations.proofs.number.of_code.Statement.{statement}
 use Rattle.deviations.proofs.number.of_code.Tie as tie
@@ -27,7 +27,7 @@ module _ (row : ℕ) where
   no-value (ReservedSpecial y) k = refl
   no-value (OutOfRange x) k = refl
 
-  a-value : (d : DecodedImapb) {x : Float} → d ≡ Value x → bits (valueBits d) ≡ codeDeviation row (reads d)
+  a-value : (d : DecodedImapb) {x : Float} → d ≡ Value x → found (valueBits d) ≡ codeDeviation row (reads d)
   a-value d e = rw e
 
 enum-known-read : tie.Need-enum-known-read
@@ -51,7 +51,7 @@ returns-2 c = rw (c .before .read .given .1, refused-not-done (c .before .read .
 returns-3 : tie.Need-returns-3
 returns-3 c =
     let r = c .before .before .before .before in
-    rw (r .read2 .given .1) (ap bits (c .value-bits .ensures) ∙ a-value (r .before .before .args .row) (r .read2 .given .0 .0) (c .before .enum-told .given .1))
+    rw (r .read2 .given .1) (ap found (c .value-bits .ensures) ∙ a-value (r .before .before .args .row) (r .read2 .given .0 .0) (c .before .enum-told .given .1))
 
 pub of-code-spec : {M : Type 1} → statement M
 of-code-spec =

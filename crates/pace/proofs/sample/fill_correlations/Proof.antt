@@ -9,10 +9,10 @@ use Rattle.pace.proofs.sample.fill_correlations.Statement.{statement}
 use Rattle.pace.proofs.sample.fill_correlations.Tie as tie
 
 abbrev Inv-loop : tie.InvT-loop
-Inv-loop correlations₀ sparse k₀ correlations k = length correlations ≡ length correlations₀
+Inv-loop correlations₀ kind k₀ correlations k = length correlations ≡ length correlations₀
 
 abbrev μ-loop : tie.MeasureT-loop
-μ-loop correlations₀ sparse k₀ correlations k = length correlations - k
+μ-loop correlations₀ kind k₀ correlations k = length correlations - k
 
 pub fill-correlations-spec : {M : Type 1} → statement M
 fill-correlations-spec =

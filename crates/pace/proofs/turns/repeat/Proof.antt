@@ -7,12 +7,12 @@ use Rattle.pace.proofs.turns.repeat.Statement.{statement}
 use Rattle.pace.proofs.turns.repeat.Tie as tie
 
 abbrev Inv-loop : tie.InvT-loop
-Inv-loop job deviations₀ correlations₀ presence₀ pack₀ sum₀ left₀ deviations correlations presence pack sum left =
+Inv-loop job deviations₀ correlations₀ states₀ pack₀ sum₀ left₀ deviations correlations states pack sum left =
     (length deviations ≡ length deviations₀) × (length correlations ≡ length correlations₀)
-    × (length presence ≡ length presence₀) × (length pack ≡ length pack₀)
+    × (length states ≡ length states₀) × (length pack ≡ length pack₀)
 
 abbrev μ-loop : tie.MeasureT-loop
-μ-loop job deviations₀ correlations₀ presence₀ pack₀ sum₀ left₀ deviations correlations presence pack sum left = left
+μ-loop job deviations₀ correlations₀ states₀ pack₀ sum₀ left₀ deviations correlations states pack sum left = left
 
 pub repeat-spec : {M : Type 1} → statement M
 repeat-spec =

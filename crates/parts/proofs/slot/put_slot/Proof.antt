@@ -38,6 +38,7 @@ put-slot-spec =
     (λ c. refl)
     (λ c κs. tt)
     (λ c. search needs)
+    (λ c. search needs)
     (λ c κs. tt)
     (λ c κs. tt)
     (λ c. search needs)

@@ -35,5 +35,5 @@ read-spec =
     (λ c κs. tt)
     (λ c. c .before .before .before .before .before .deviations .given .1)
     correlations-kept
-    (λ c. c .before .presence .given .1)
+    (λ c. c .before .states .given .1)
     (λ c. tt))

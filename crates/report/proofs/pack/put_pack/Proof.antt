@@ -28,7 +28,7 @@ returns c =
     let p = s .args .pack in
     let d = length-take-le (p .deviations) (s .args .deviations .now) (s .pre .1) in
     let m = length-take-le (p .slots) (s .args .correlations .now) (s .pre .2) in
-    rw (m, slots-front (p .«matrix_size») (p .slots) (s .args .correlations .now) (s .args .presence .now) (omega (arith, s .pre .0)))
+    rw (m, slots-front (p .«matrix_size») (p .slots) (s .args .correlations .now) (s .args .states .now) (omega (arith, s .pre .0)))
     (put-then (put-then (rw (← d) at (u .put-counts .ensures)) (v .put-rows .ensures)) (w .put-slots .ensures))
 
 pub put-pack-spec : {M : Type 1} → statement M

@@ -13,12 +13,12 @@ use Rattle.report.proofs.pack.put_row.Statement.{statement}
 use Rattle.report.proofs.pack.put_row.Tie as tie
 
 abbrev Inv-loop : tie.InvT-loop
-Inv-loop i rows first correlations presence at out₀ next₀ slot₀ j₀ out next slot j =
-    Puts (rows - 1 - i) (λ n. joined n (λ k. slotLine rows correlations presence i (i + 1 + k))) at out₀ (j - 1 - i) out next
+Inv-loop i rows first correlations states at out₀ next₀ slot₀ j₀ out next slot j =
+    Puts (rows - 1 - i) (λ n. joined n (λ k. slotLine rows correlations states i (i + 1 + k))) at out₀ (j - 1 - i) out next
     × Along i first slot j
 
 abbrev μ-loop : tie.MeasureT-loop
-μ-loop i rows first correlations presence at out₀ next₀ slot₀ j₀ out next slot j = rows - j
+μ-loop i rows first correlations states at out₀ next₀ slot₀ j₀ out next slot j = rows - j
 
 loop-holds : tie.Need-loop-holds Inv-loop μ-loop
 loop-holds c =

@@ -13,11 +13,11 @@ use Rattle.report.proofs.pack.put_slots.Statement.{statement}
 use Rattle.report.proofs.pack.put_slots.Tie as tie
 
 abbrev Inv-loop : tie.InvT-loop
-Inv-loop rows correlations presence at out₀ next₀ first₀ i₀ out next first i =
-    Puts rows (λ k. joined k (rowLines rows correlations presence)) at out₀ i out next × (first ≡ slotOf rows i (i + 1))
+Inv-loop rows correlations states at out₀ next₀ first₀ i₀ out next first i =
+    Puts rows (λ k. joined k (rowLines rows correlations states)) at out₀ i out next × (first ≡ slotOf rows i (i + 1))
 
 abbrev μ-loop : tie.MeasureT-loop
-μ-loop rows correlations presence at out₀ next₀ first₀ i₀ out next first i = rows - i
+μ-loop rows correlations states at out₀ next₀ first₀ i₀ out next first i = rows - i
 
 loop-holds : tie.Need-loop-holds Inv-loop μ-loop
 loop-holds c = (puts-none refl (c .within .ensures .1), sym (row-first (c .before .before .before .before .before .args .rows)))

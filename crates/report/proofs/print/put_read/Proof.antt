@@ -13,7 +13,7 @@ lent c =
     let s = c .before .before .before .before .before .before .before .before .before in
     let d = c .before .before .before .before .before .before .room-for-deviations in
     let k = c .before .before .before .before .before .room-for-correlations in
-    let p = c .before .before .before .before .room-for-presence in
+    let p = c .before .before .before .before .room-for-states in
     was-lent (s .args .bytes .now) (d .result) (k .result) (p .result) (s .pre) (d .ensures) (k .ensures) (p .ensures) (c .decode-sdcc-flp .result) (c .decode-sdcc-flp .ensures)
 
 put-pack-requires : tie.Need-put-pack-requires
@@ -45,7 +45,7 @@ put-read-spec =
     (λ c κs. tt)
     (λ c. c .before .before .before .room-for-deviations .ensures)
     (λ c. c .before .before .before .room-for-correlations .ensures)
-    (λ c. c .before .before .before .room-for-presence .ensures)
+    (λ c. c .before .before .before .room-for-states .ensures)
     (λ c κs. tt)
     (λ c. search needs)
     (λ c. search needs)

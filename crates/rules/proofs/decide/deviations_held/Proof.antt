@@ -36,6 +36,9 @@ enum-told-2 c = search needs
 deviation-at-requires : tie.Need-deviation-at-requires
 deviation-at-requires c κs = search needs
 
+check-number-requires : tie.Need-check-number-requires
+check-number-requires c κs = search needs
+
 cast-in-turn : tie.Need-cast-in-turn
 cast-in-turn c = search needs
 
@@ -44,18 +47,19 @@ left-requires c κs = search needs
 
 in-turn-requires : tie.Need-in-turn-requires
 in-turn-requires c κs =
-    let d = c .before .before .before .before .before in
+    let d = c .before .before .before .before .before .before in
     let s = d .before .before .before .before in
     rw (d .deviation-count .ensures) (omega (arith, few-deviations (s .pre .within)))
 
 returns-2 : tie.Need-returns-2
 returns-2 c =
-    let f = c .before .before .before .before in
+    let n = c .before .before .before in
+    let f = n .before .before in
     let d = f .before .before in
     let s = d .before .before .before .before in
     let a = s .args in
     rw (f .enum-told2 .given .1)
-    (rw (c .before .left .ensures, d .deviation-count .ensures, c .before .before .before .deviation-at .ensures) at (c .in-turn .ensures)
+    (rw (c .before .left .ensures, d .deviation-count .ensures, n .check-number .ensures, n .before .deviation-at .ensures) at (c .in-turn .ensures)
     ∙ sym (by-first-deviation (a .bytes .now) (a .places .deviations) (a .places .head .control) (deviationCount (a .places .head))))
 
 pub deviations-held-spec : {M : Type 1} → statement M
@@ -68,6 +72,7 @@ deviations-held-spec =
     returns
     enum-told-2
     deviation-at-requires
+    check-number-requires
     cast-in-turn
     left-requires
     in-turn-requires

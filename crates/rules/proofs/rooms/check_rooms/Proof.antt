@@ -30,7 +30,7 @@ returns-3 c =
       e,
       le-ltb (a .deviations) (deviationCount (a .head)) (rw e at (c .before .before .before .before .if1 .left)),
       le-ltb (a .correlations) (slotsOf (a .head .n)) (rw e at (c .before .before .if2 .left)),
-      lt-ltb (a .presence) (slotsOf (a .head .n)) (rw e at (c .if3 .taken)),
+      lt-ltb (a .states) (slotsOf (a .head .n)) (rw e at (c .if3 .taken)),
     )
 
 returns-4 : tie.Need-returns-4
@@ -40,7 +40,7 @@ returns-4 c =
     rw (
       le-ltb (a .deviations) (deviationCount (a .head)) (rw e at (c .before .before .before .before .if1 .left)),
       le-ltb (a .correlations) (slotsOf (a .head .n)) (rw e at (c .before .before .if2 .left)),
-      le-ltb (a .presence) (slotsOf (a .head .n)) (rw e at (c .if3 .left)),
+      le-ltb (a .states) (slotsOf (a .head .n)) (rw e at (c .if3 .left)),
     )
 
 pub check-rooms-spec : {M : Type 1} → statement M

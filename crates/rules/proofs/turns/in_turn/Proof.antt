@@ -11,17 +11,8 @@ use Rattle.rules.proofs.turns.in_turn.Tie as tie
 returns : tie.Need-returns
 returns c = rw (c .if1 .taken)
 
-enum-told : tie.Need-enum-told
-enum-told c = search needs
-
-enum-told-2 : tie.Need-enum-told-2
-enum-told-2 c = search needs
-
-check-number-requires : tie.Need-check-number-requires
-check-number-requires c κs = search needs
-
 returns-2 : tie.Need-returns-2
-returns-2 c = rw (ne-eqb _ 0 (c .before .before .before .if1 .left), c .check-number .ensures, c .before .enum-told2 .given .1, refused-not-done)
+returns-2 c = rw (ne-eqb _ 0 (c .before .before .if1 .left), c .enum-told2 .given .1, refused-not-done)
 
 mul-all : tie.Need-mul-all
 mul-all c = search needs
@@ -38,13 +29,4 @@ returns-4 c = rw (ne-eqb _ 0 (c .before .before .before .if1 .left), c .before .
 pub in-turn-spec : {M : Type 1} → statement M
 in-turn-spec =
     tie.close
-    (tie.spec
-    returns
-    enum-told
-    enum-told-2
-    check-number-requires
-    returns-2
-    mul-all
-    rem-t8
-    returns-3
-    returns-4)
+    (tie.spec returns (λ c. search needs) (λ c. search needs) returns-2 mul-all rem-t8 returns-3 returns-4)

@@ -15,13 +15,13 @@ use Rattle.shown.proofs.lines.put_slots.Statement.{statement}
 use Rattle.shown.proofs.lines.put_slots.Tie as tie
 
 abbrev Inv-loop : tie.InvT-loop
-Inv-loop rows count correlations presence at out₀ held end next₀ pair₀ k₀ out next pair k =
-    Puts end (λ k. joined k (λ k. replyText (slotReply (pairAt rows k) (getD presence k 0) (getD correlations k 0))))
+Inv-loop rows count correlations states at out₀ held end next₀ pair₀ k₀ out next pair k =
+    Puts end (λ k. joined k (λ k. replyText (slotReply (pairAt rows k) (getD states k 0) (getD correlations k 0))))
     at out₀ k out next
     × (pair ≡ pairAt rows k)
 
 abbrev μ-loop : tie.MeasureT-loop
-μ-loop rows count correlations presence at out₀ held end next₀ pair₀ k₀ out next pair k = end - k
+μ-loop rows count correlations states at out₀ held end next₀ pair₀ k₀ out next pair k = end - k
 
 loop-holds : tie.Need-loop-holds Inv-loop μ-loop
 loop-holds c = (puts-none refl (c .within2 .ensures .1), refl)

@@ -11,10 +11,10 @@ use Rattle.trip.proofs.compare.same_slots.Statement.{statement}
 use Rattle.trip.proofs.compare.same_slots.Tie as tie
 
 abbrev Inv-loop : tie.InvT-loop
-Inv-loop clen sent back presence k₀ k = Tested (length sent) (λ j. slotAgrees clen (getD sent j 0) (getD back j 0) (getD presence j 0)) k
+Inv-loop clen sent back states k₀ k = Tested (length sent) (λ j. slotAgrees clen (getD sent j 0) (getD back j 0) (getD states j 0)) k
 
 abbrev μ-loop : tie.MeasureT-loop
-μ-loop clen sent back presence k₀ k = length sent - k
+μ-loop clen sent back states k₀ k = length sent - k
 
 loop-holds : tie.Need-loop-holds Inv-loop μ-loop
 loop-holds c = tested-none _ _

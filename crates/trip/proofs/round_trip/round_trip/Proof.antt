@@ -56,10 +56,10 @@ module _ (c : tie.After-decode-sdcc-flp) where
   told = c .before .before .before .before .before .before
 
   abbrev lent : Lent
-  lent = record { pack = start told .args .pack .now; deviations = start told .args .deviations-back .now; correlations = start told .args .correlations-back .now; presence = start told .args .presence .now }
+  lent = record { pack = start told .args .pack .now; deviations = start told .args .deviations-back .now; correlations = start told .args .correlations-back .now; states = start told .args .states .now }
 
   abbrev left : Lent
-  left = record { pack = packed told; deviations = c .decode-sdcc-flp .last .1 .0; correlations = c .decode-sdcc-flp .last .1 .1 .0; presence = c .decode-sdcc-flp .last .1 .1 .1 .0 }
+  left = record { pack = packed told; deviations = c .decode-sdcc-flp .last .1 .0; correlations = c .decode-sdcc-flp .last .1 .1 .0; states = c .decode-sdcc-flp .last .1 .1 .1 .0 }
 
   ran : Ran (start told .args .deviations .now) (start told .args .correlations .now) (start told .args .clen) lent left (count told) (readListed (c .decode-sdcc-flp .result))
   ran =
@@ -68,7 +68,7 @@ module _ (c : tie.After-decode-sdcc-flp) where
         read = c .decode-sdcc-flp .ensures .0;
         deviations = c .decode-sdcc-flp .ensures .1;
         correlations = c .decode-sdcc-flp .ensures .2;
-        presence = c .decode-sdcc-flp .ensures .3;
+        states = c .decode-sdcc-flp .ensures .3;
       }
 
 slice-aggregate-decode-sdcc-flp : tie.Need-slice-aggregate-decode-sdcc-flp
