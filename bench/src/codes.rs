@@ -43,3 +43,9 @@ pub fn of_specials(slots: usize, clen: usize, out: &mut [u8]) -> u64 {
     }
     figure
 }
+
+// In the place of those that end a full pack.
+pub fn over_last(slots: usize, clen: usize, pack: &mut [u8]) {
+    let start = pack.len() - slots * clen;
+    of_specials(slots, clen, &mut pack[start..]);
+}

@@ -18,11 +18,18 @@ enum Op {
     Idle,
 }
 
+#[derive(Clone, Copy, PartialEq)]
+enum Kind {
+    Full,
+    Sparse,
+    Specials,
+}
+
 struct Job {
     op: Op,
     rows: usize,
     clen: usize,
-    sparse: bool,
+    kind: Kind,
     reps: usize,
 }
 
@@ -50,7 +57,12 @@ fn asked() -> Job {
         },
         rows: number(1),
         clen: number(2),
-        sparse: words[3] == "sparse",
+        kind: match words[3].as_str() {
+            "full" => Kind::Full,
+            "sparse" => Kind::Sparse,
+            "specials" => Kind::Specials,
+            _ => panic!("KIND is full, sparse or specials"),
+        },
         reps: number(4),
     }
 }
@@ -143,24 +155,29 @@ fn repeat(job: &Job, state: &mut State) -> u64 {
     sum
 }
 
-fn main() {
-    let job = asked();
-    let matrix = matrix::made(job.rows, job.sparse);
-    let pack = written(&matrix, job.clen);
+// The matrix and its pack.
+fn made(job: &Job) -> State {
+    let sparse = job.kind == Kind::Sparse;
+    let matrix = matrix::made(job.rows, sparse);
+    let mut pack = written(&matrix, job.clen);
     // element 2 stands behind one byte of N, or two
     let control = pack[if job.rows < 128 { 1 } else { 2 }];
-    assert_eq!(
-        control & 0x20 != 0,
-        job.sparse,
-        "the pack is of the other kind"
-    );
-    let mut state = State { matrix, pack };
+    assert_eq!(control & 0x20 != 0, sparse, "the pack is of the other kind");
+    if job.kind == Kind::Specials {
+        codes::over_last(matrix.correlations.len(), job.clen, &mut pack);
+    }
+    State { matrix, pack }
+}
+
+fn main() {
+    let job = asked();
+    let mut state = made(&job);
     let repeated = repeat(&job, &mut state);
     let State { matrix, pack } = state;
     let numbers = matrix.std_devs.iter().chain(&matrix.correlations);
     let of_numbers = numbers.fold(repeated, |figure, x| add(figure, x.to_bits()));
-    let presence = matrix.correlation_present.iter().map(|&said| said.into());
-    let bytes = presence.chain(pack.iter().map(|&byte| byte.into()));
+    let present = matrix.correlation_present.iter().map(|&said| said.into());
+    let bytes = present.chain(pack.iter().map(|&byte| byte.into()));
     let figure = bytes.fold(of_numbers, add);
     println!("pack {} figure {figure}", pack.len());
 }

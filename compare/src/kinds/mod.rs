@@ -24,6 +24,7 @@ pub mod reasons;
 mod rules;
 mod short;
 mod special;
+mod states;
 mod usable;
 mod why;
 mod widen;

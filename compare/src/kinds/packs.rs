@@ -140,6 +140,21 @@ fn ieee(random: &mut Random, length: u8) -> Vec<u8> {
     bytes
 }
 
+// Turns a code into that of 1, of a family's start or of E1, or the next above it.
+fn to_start(code: &mut [u8]) {
+    let [first, rest @ ..] = code else {
+        return;
+    };
+    *first = match first {
+        0x00..=0x7F => 0x80,
+        _ => *first & 0xF9 | 0xC0,
+    };
+    if let [middle @ .., last] = rest {
+        middle.fill(0x00);
+        *last &= 1;
+    }
+}
+
 fn correlation(random: &mut Random, control: Control) -> Vec<u8> {
     if !control.cf && control.mode2 {
         return ieee(random, control.clen);
@@ -154,6 +169,11 @@ fn correlation(random: &mut Random, control: Control) -> Vec<u8> {
         // of some family, with no payload or with one
         1 => (random.byte() | 0xC0, 0x00),
         2 => (random.byte() | 0xC0, random.byte()),
+        // without a draw, so that all else is drawn as it was
+        3 => {
+            to_start(&mut bytes);
+            return bytes;
+        }
         _ => return bytes,
     };
     bytes.fill(rest);

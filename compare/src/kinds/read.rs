@@ -1,9 +1,10 @@
-//! `read DROOM CROOM PROOM HEX`: a whole pack, by the Rust's `decode_sdcc_flp`.
+//! `read DROOM CROOM SROOM HEX`: a whole pack, by the Rust's `decode_sdcc_flp`; `states` has what each slot was.
 use super::packs::{pack, slots, Control};
 use super::packs_at_limits::{documented, every_control, every_cut, every_short, every_size};
 use super::packs_at_limits::{longest, of_long_codes, padded};
 use super::packs_at_random::made;
-use super::short::numbers;
+use super::short::{body, numbers};
+use super::states::{slots_of, Slot};
 use super::widen::wide_nan;
 use super::{hex, Case, Kind};
 use crate::error::KlvFieldError;
@@ -19,7 +20,7 @@ pub const KIND: Kind = Kind {
     share: 1,
 };
 
-// How many deviations, correlations and entries of presence are lent.
+// How many deviations, correlations and states are lent.
 pub(super) type Rooms = [usize; 3];
 
 // As many as a request has to be taken with, and enough for what is small.
@@ -43,9 +44,9 @@ pub(super) fn answer_of(
 }
 
 pub(super) fn case(rooms: Rooms, bytes: &[u8]) -> Case {
-    let [deviations, correlations, presence] = rooms;
+    let [deviations, correlations, states] = rooms;
     Case {
-        request: format!("read {deviations} {correlations} {presence} {}", hex(bytes)),
+        request: format!("read {deviations} {correlations} {states} {}", hex(bytes)),
         answer: answer(rooms, bytes),
     }
 }
@@ -77,17 +78,6 @@ fn no_room(read: &SdccFlp, rooms: Rooms) -> Option<String> {
     Some(format!("refused 5 {needed} {got}"))
 }
 
-// The bytes of a deviation and of a correlation.
-fn sizes(bytes: &[u8]) -> [usize; 2] {
-    let (_, rest) = read_ber_oid(bytes).unwrap();
-    let sizes = if rest[0] < 0x80 {
-        [rest[0] >> 4, rest[0] & 7]
-    } else {
-        [rest[1] & 15, rest[0] & 15]
-    };
-    sizes.map(usize::from)
-}
-
 // The bits of what was read from these bytes. Those of a NaN follow from the bytes: the Rust fixes none where it
 // converts it.
 fn bits(number: f64, bytes: &[u8]) -> u64 {
@@ -102,28 +92,24 @@ fn bits(number: f64, bytes: &[u8]) -> u64 {
 
 // The lines of a pack that was read. Its numbers stand at the end of the bytes.
 fn lines(bytes: &[u8], read: &SdccFlp) -> String {
-    let [slen, clen] = sizes(bytes);
-    let n = read.matrix_size as usize;
-    let present = &read.correlation_present;
-    let codes = present.iter().filter(|&&present| present).count();
-    let mut next = bytes.len() - codes * clen - read.std_devs.len() * slen;
-    let mut raw = |size: usize| {
-        next += size;
-        &bytes[next - size..next]
-    };
+    let (_, control) = read_ber_oid(bytes).unwrap();
+    let slen = body(control).unwrap().slen;
+    let slots = slots_of(bytes, read);
+    let codes = slots.first().map_or(bytes.len(), |slot| slot.code.start);
+    let deviations = codes - read.std_devs.len() * slen;
     let mut lines = format!(
-        "n {n} deviations {} slots {}",
+        "n {} deviations {} slots {}",
+        read.matrix_size,
         read.std_devs.len(),
         read.correlations.len()
     );
     for (row, &deviation) in read.std_devs.iter().enumerate() {
-        write!(lines, ";s {row} {:016X}", bits(deviation, raw(slen))).unwrap();
+        let raw = &bytes[deviations + row * slen..][..slen];
+        write!(lines, ";s {row} {:016X}", bits(deviation, raw)).unwrap();
     }
-    let cells = (0..n).flat_map(|i| (i + 1..n).map(move |j| (i, j)));
-    for (slot, (i, j)) in cells.enumerate() {
-        let size = if present[slot] { clen } else { 0 };
-        let bits = bits(read.correlations[slot], raw(size));
-        write!(lines, ";c {i} {j} {} {bits:016X}", u8::from(present[slot])).unwrap();
+    for (Slot { i, j, state, code }, &number) in slots.into_iter().zip(&read.correlations) {
+        let bits = bits(number, &bytes[code]);
+        write!(lines, ";c {i} {j} {state} {bits:016X}").unwrap();
     }
     lines
 }
@@ -140,8 +126,8 @@ pub(super) fn every_room_of(n: u64) -> Vec<Rooms> {
     let mut rooms = Vec::new();
     for deviations in rooms_around(n as usize) {
         for correlations in rooms_around(slots(n)) {
-            for presence in rooms_around(slots(n)) {
-                rooms.push([deviations, correlations, presence]);
+            for states in rooms_around(slots(n)) {
+                rooms.push([deviations, correlations, states]);
             }
         }
     }

@@ -1,4 +1,4 @@
-//! `read-in MIN MAX DROOM CROOM PROOM HEX`: a whole pack whose deviations may be mapped, by the Rust's
+//! `read-in MIN MAX DROOM CROOM SROOM HEX`: a whole pack whose deviations may be mapped, by the Rust's
 //! `decode_sdcc_flp` and `decode_imapb`.
 //!
 //! The Rust's reader refuses mapped deviations. What they read as is the Rust's `decode_imapb`; that they are taken in
@@ -28,10 +28,10 @@ pub const KIND: Kind = Kind {
 const FEW: u64 = 1000;
 
 fn case(range: Range, rooms: Rooms, bytes: &[u8]) -> Case {
-    let [deviations, correlations, presence] = rooms;
+    let [deviations, correlations, states] = rooms;
     Case {
         request: format!(
-            "read-in {} {deviations} {correlations} {presence} {}",
+            "read-in {} {deviations} {correlations} {states} {}",
             spelled(range),
             hex(bytes)
         ),

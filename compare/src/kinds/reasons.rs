@@ -21,7 +21,7 @@ pub fn printed(bytes: &[u8]) -> String {
 // A part of the answer, with the bytes of a slot that is present.
 fn line(part: &str, bytes: &[u8]) -> String {
     match part.split(' ').collect::<Vec<_>>()[..] {
-        ["slot", _, _, "1", start, end] => {
+        ["slot", _, _, _, start, end] => {
             let code = &bytes[start.parse().unwrap()..end.parse().unwrap()];
             format!("{part} {}", hex(code))
         }

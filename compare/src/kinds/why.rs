@@ -1,9 +1,10 @@
 //! `why HEX`: the rule that refuses a pack, or where its elements and slots stand. Whether it is refused, with which
-//! numbers, and which slots are present is the Rust's `decode_sdcc_flp`.
+//! numbers, and which slots are present is the Rust's `decode_sdcc_flp`; `states` has what each slot was.
 use super::packs_at_limits::{documented, every_control, every_cut, every_short, every_size};
 use super::packs_at_limits::{longest, of_long_codes, padded};
 use super::packs_at_random::made;
-use super::rules::{ends, header};
+use super::rules::ends;
+use super::states::{slots_of, Slot};
 use super::{hex, read, Case, Kind};
 use crate::error::KlvFieldError;
 use crate::klv::st1010::{decode_sdcc_flp, SdccFlp};
@@ -35,7 +36,7 @@ fn refused(bytes: &[u8], error: KlvFieldError) -> String {
 }
 
 fn accepted(bytes: &[u8], read: &SdccFlp) -> String {
-    let (Ok(ends), Ok(header)) = (ends(bytes), header(bytes)) else {
+    let Ok(ends) = ends(bytes) else {
         panic!("a rule refuses {}", hex(bytes));
     };
     let mut text = format!("accepted {}", bytes.len());
@@ -48,18 +49,15 @@ fn accepted(bytes: &[u8], read: &SdccFlp) -> String {
         start = end;
     }
     let [.., mut next, end] = ends;
-    let n = read.matrix_size as usize;
-    let cells = (0..n).flat_map(|i| (i + 1..n).map(move |j| (i, j)));
-    for ((i, j), present) in cells.zip(&read.correlation_present) {
-        if *present {
-            let start = next;
-            next += header.body.clen;
-            write!(text, ";slot {i} {j} 1 {start} {next}").unwrap();
-        } else {
-            write!(text, ";slot {i} {j} 0 absent").unwrap();
+    for Slot { i, j, state, code } in slots_of(bytes, read) {
+        // the slots that the Rust calls present fill the codes
+        assert_eq!(code.start, next);
+        next = code.end;
+        match state {
+            0 => write!(text, ";slot {i} {j} 0 absent").unwrap(),
+            _ => write!(text, ";slot {i} {j} {state} {} {next}", code.start).unwrap(),
         }
     }
-    // the slots that the Rust calls present fill the codes
     assert_eq!(next, end);
     text
 }
