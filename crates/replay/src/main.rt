@@ -12,13 +12,12 @@ use answer::answer;
 use input::flush_above;
 use input::refill;
 use requests::limits::BYTES;
-use requests::limits::ROWS;
-use requests::limits::SLOTS;
+use requests::limits::WORDS;
 use requests::request::read_request;
 use text::part::within;
 use text::put::put_byte;
 
-// A request of so many bytes in hex, with the words before them, or of 33,300 numbers of 16 digits.
+// A request of so many bytes in hex, with the words before them. Lists that fill all the words take less.
 const LINE: usize = 2 * BYTES + 128;
 
 // As much is held at most as a block has, and an answer has room behind it.
@@ -70,8 +69,8 @@ fn room_for_line() -> [u8; LINE] {
     [0; LINE]
 }
 
-fn room_for_words() -> [u64; ROWS + SLOTS] {
-    [0; ROWS + SLOTS]
+fn room_for_words() -> [u64; WORDS] {
+    [0; WORDS]
 }
 
 fn room_for_output() -> [u8; OUT] {

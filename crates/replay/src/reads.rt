@@ -71,7 +71,7 @@ pub(crate) fn put_read(
     let lent = Lent {
         deviations: request.rows,
         correlations: request.slots,
-        states: request.room,
+        states: request.states,
     };
     let read = read(
         request,

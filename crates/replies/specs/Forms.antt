@@ -15,7 +15,7 @@ forms =
     ∷ ascii "mapped N H"
     ∷ ascii "peek H"
     ∷ ascii "cell N S C I J"
-    ∷ ascii "usable N S C"
+    ∷ ascii "usable N S C T"
     ∷ ascii "print H"
     ∷ ascii "read D E F H"
     ∷ ascii "map N R X"

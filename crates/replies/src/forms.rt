@@ -11,7 +11,7 @@ const FORMS: [u8; 1128] = *b"\
     mapped N H..............\
     peek H..................\
     cell N S C I J..........\
-    usable N S C............\
+    usable N S C T..........\
     print H.................\
     read D E F H............\
     map N R X...............\

@@ -1,18 +1,19 @@
--- The parts of the words that the two lists have, where the words are fewer too.
+-- The part of the words that a list has, where the words are fewer too.
 -- Assumes nothing.
 use mathlib.Core.Path.{_≡_, ap, _∙_}
-use mathlib.Core.List.{List, [], _∷_, _++_, append-nil}
-use Prim.Native.Nat.{ℕ, zero, suc, _-_, min}
+use mathlib.Core.List.{List, [], _∷_, _++_}
+use Prim.Native.Nat.{ℕ, zero, suc, _-_, _≤_, min}
 use native.Mathlib.Nat.{zero-min, min-zero, suc-min-suc}
 use native.Mathlib.Omega.{arith}
-use borrow.Author.Tests.{ne-eqb}
-use borrow.Rule.Slice.PartMut.{midOf, putMid}
-use lib.ListN.{length, take, drop, length-drop, drop-of-length-le}
-use lib.Seq.{take-all}
+use borrow.Rule.Slice.PartMut.{midOf, putMid, post-is}
+use lib.Dec.{eqb}
+use lib.ListN.{length, take, drop, length-drop}
 use Rattle.answers.specs.Lent.{over}
+use Rattle.answers.proofs.Rules.{picked}
 use Rattle.text.specs.declared.numeral.Numeral.{Numeral}
 use Rattle.text.specs.Entries.{listAt, listedAt}
-use Rattle.requests.specs.Fields.{rowsLent, forRows, forSlots, listOf, wordsOf}
+use Rattle.requests.specs.declared.fields.Part.{Part}
+use Rattle.requests.specs.Fields.{partOf, roomOf, listIn, wordsIn}
 
 take-within : (n : ℕ) (l : List ℕ) → take (min n (length l)) l ≡ take n l
 take-within zero l = rw (zero-min (length l))
@@ -24,36 +25,35 @@ drop-within zero l = rw (zero-min (length l))
 drop-within (suc n) [] = rw (min-zero (suc n))
 drop-within (suc n) (x ∷ l) = rw (suc-min-suc n (length l)) (drop-within n l)
 
-mid-rest : (a : ℕ) (l : List ℕ) → midOf a (length l - a) l ≡ drop a l
-mid-rest a l = take-all (length l - a) (drop a l) (omega (arith, length-drop a l))
+-- no part ends before it starts
+pub part-ordered : (letter : ℕ) → partOf letter .start ≤ partOf letter .end
+unfolding partOf
+part-ordered letter =
+    picked (λ (p : Part). p .start ≤ p .end) (eqb letter 0x53) _ _ (λ _. omega arith)
+    (λ _. picked (λ (p : Part). p .start ≤ p .end) (eqb letter 0x43) _ _ (λ _. omega arith) (λ _. omega arith))
 
-put-rest : (a : ℕ) (l m : List ℕ) → putMid a (length l - a) l m ≡ take a l ++ m
-put-rest a l m = rw (drop-of-length-le (drop a l) {i = length l - a} (omega (arith, length-drop a l)), append-nil m)
+-- ---- a part that is lent as far as the words go
+module _ (part : Part) (h : part .start ≤ part .end) (words : List ℕ) {start end : ℕ}
+    (s : start ≡ min (part .start) (length words)) (e : end ≡ min (part .end) (length words)) where
+  behind : drop start words ≡ drop (part .start) words
+  behind = rw s (drop-within (part .start) words)
 
-module _ (line : List ℕ) (at : ℕ) (words : List ℕ) {rows : ℕ} (e : rows ≡ min rowsLent (length words)) where
-  front : take rows words ≡ forRows words
-  front = rw e (take-within rowsLent words)
+  pub part-lent : midOf start (end - start) words ≡ roomOf part words
+  part-lent =
+      let n : end - start ≡ min (part .end - part .start) (length (drop (part .start) words))
+      = omega (arith, length-drop (part .start) words) in
+      rw (behind, n) (take-within (part .end - part .start) (drop (part .start) words))
 
-  behind : drop rows words ≡ forSlots words
-  behind = rw e (drop-within rowsLent words)
+  pub part-back : (m : List ℕ)
+      → putMid start (end - start) words m ≡ take (part .start) words ++ (m ++ drop (part .end) words)
+  part-back m =
+      let o : start ≤ end = omega arith in
+      rw (post-is start end words o, s, e, take-within (part .start) words, drop-within (part .end) words)
 
-  abbrev rest : List ℕ
-  rest = midOf rows (length words - rows) words
-
-  module _ {letter : ℕ} {r : Numeral} {m : List ℕ} where
-    pub listed-front : letter ≡ 0x53
-        → (r ≡ listAt (length (take rows words)) line at)
-        × (m ≡ over (listedAt (length (take rows words)) line at) (take rows words))
-        → (r ≡ listOf letter line at words) × (m ++ drop rows words ≡ wordsOf letter line at words)
-    unfolding listOf wordsOf
-    listed-front k (a, b) = (rw k (rw front at a), rw (k, behind) (ap (λ (l : List ℕ). l ++ forSlots words) (rw front at b)))
-
-    pub listed-behind : (letter ≡ 0x53 → ⊥)
-        → (r ≡ listAt (length rest) line at) × (m ≡ over (listedAt (length rest) line at) rest)
-        → (r ≡ listOf letter line at words)
-        × (putMid rows (length words - rows) words m ≡ wordsOf letter line at words)
-    unfolding listOf wordsOf
-    listed-behind k (a, b) =
-        let i : rest ≡ forSlots words = mid-rest rows words ∙ behind in
-        let n = ne-eqb letter 0x53 k in
-        (rw n (rw i at a), put-rest rows words m ∙ rw (n, front) (ap (λ (l : List ℕ). forRows words ++ l) (rw i at b)))
+  -- what is read into it is the list
+  pub part-listed : (line : List ℕ) (at : ℕ) {r : Numeral} {m : List ℕ}
+      → let lent = midOf start (end - start) words in
+      (r ≡ listAt (part .entry) (length lent) line at)
+      × (m ≡ over (listedAt (part .entry) (length lent) line at) lent)
+      → (r ≡ listIn part line at words) × (putMid start (end - start) words m ≡ wordsIn part line at words)
+  part-listed line at {r} {m} (a, b) = (rw part-lent at a, part-back m ∙ rw (rw part-lent at b))

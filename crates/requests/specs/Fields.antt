@@ -7,11 +7,13 @@ use lib.ListN.{length, take, drop}
 use Rattle.answers.specs.Lent.{over}
 use Rattle.answers.specs.Table.{pick}
 use Rattle.layout.specs.Size.{maxRows, maxSlots}
+use Rattle.text.specs.declared.numeral.Entry.the-variants.{Bits, UpTo}
 use Rattle.text.specs.declared.numeral.Numeral.{Numeral}
 use Rattle.text.specs.declared.numeral.Numeral.the-variants.{Read}
 use Rattle.text.specs.Numeral.{hexAt, decimalUpTo, endAt, literalAt}
 use Rattle.text.specs.Entries.{listAt, listedAt}
 use Rattle.text.specs.Strings.{stringAt, bytesAt}
+use Rattle.requests.specs.declared.fields.Part.{Part}
 
 -- ---- how much a request may be lent
 abbrev pub bytesLent : ℕ
@@ -22,6 +24,9 @@ rowsLent = 4 * maxRows
 
 abbrev pub slotsLent : ℕ
 slotsLent = maxSlots + 1152
+
+abbrev pub wordsLent : ℕ
+wordsLent = rowsLent + slotsLent + slotsLent
 
 -- ---- a number
 -- the most that it may be: `D`, `E`, `F` and `R` are rooms
@@ -39,30 +44,39 @@ numberAt letter line at =
     (pick (eqb letter 0x2e) (endAt line at)
     (pick (eqb letter 0x2c) (Read 0 at) (literalAt letter line at)))))
 
--- ---- a list: the deviations, `S`, go into the first words, the correlations, `C`, behind them
-abbrev pub forRows : List ℕ → List ℕ
-forRows words = take rowsLent words
+-- ---- a list: where it goes in the words, and how its entries are spelled
+-- the deviations, `S`, go first, the correlations, `C`, behind them, and the states, `T`, in decimal, last
+unfoldable pub partOf : ℕ → Part
+partOf letter =
+    pick (eqb letter 0x53) (record { start = 0; end = rowsLent; entry = Bits })
+    (pick (eqb letter 0x43) (record { start = rowsLent; end = rowsLent + slotsLent; entry = Bits })
+    (record { start = rowsLent + slotsLent; end = wordsLent; entry = UpTo 255 }))
 
-abbrev pub forSlots : List ℕ → List ℕ
-forSlots words = drop rowsLent words
+-- the words of a part
+abbrev pub roomOf : Part → List ℕ → List ℕ
+roomOf part words = take (part .end - part .start) (drop (part .start) words)
 
-abbrev pub roomOf : ℕ → List ℕ → List ℕ
-roomOf letter words = pick (eqb letter 0x53) (forRows words) (forSlots words)
+abbrev pub listIn : Part → List ℕ → ℕ → List ℕ → Numeral
+listIn part line at words = listAt (part .entry) (length (roomOf part words)) line at
+
+-- the words with the list in its part
+abbrev pub wordsIn : Part → List ℕ → ℕ → List ℕ → List ℕ
+wordsIn part line at words =
+    let room : List ℕ = roomOf part words in
+    take (part .start) words ++ (over (listedAt (part .entry) (length room) line at) room ++ drop (part .end) words)
 
 unfoldable pub listOf : ℕ → List ℕ → ℕ → List ℕ → Numeral
-listOf letter line at words = listAt (length (roomOf letter words)) line at
+listOf letter line at words = listIn (partOf letter) line at words
 
 unfoldable pub wordsOf : ℕ → List ℕ → ℕ → List ℕ → List ℕ
-wordsOf letter line at words =
-    let stored : List ℕ = over (listedAt (length (roomOf letter words)) line at) (roomOf letter words) in
-    pick (eqb letter 0x53) (stored ++ forSlots words) (forRows words ++ stored)
+wordsOf letter line at words = wordsIn (partOf letter) line at words
 
--- ---- a field: `H` is a byte string, `C` and `S` are lists
+-- ---- a field: `H` is a byte string, `C`, `S` and `T` are lists
 abbrev pub isString : ℕ → Bool
 isString letter = eqb letter 0x48
 
 abbrev pub isList : ℕ → Bool
-isList letter = eqb letter 0x43 || eqb letter 0x53
+isList letter = eqb letter 0x43 || (eqb letter 0x53 || eqb letter 0x54)
 
 unfoldable pub fieldAt : ℕ → List ℕ → ℕ → List ℕ → Numeral
 fieldAt letter line at words =

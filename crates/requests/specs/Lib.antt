@@ -1,3 +1,4 @@
 pub mod Form
 pub mod Fields
 pub mod Request
+pub mod States

@@ -2,7 +2,9 @@
 use crate::limits::BYTES;
 use crate::limits::ROWS;
 use crate::limits::SLOTS;
+use crate::limits::WORDS;
 use text::list::list;
+use text::numeral::Entry;
 use text::numeral::Numeral;
 use text::numeral::at_end;
 use text::numeral::decimal_up_to;
@@ -11,7 +13,8 @@ use text::numeral::literal;
 use text::part::within_words;
 use text::string::byte_string;
 ghost use mathlib.Core.Path.{_≡_};
-ghost use Rattle.requests.specs.Fields.{most, numberAt, fieldAt, lineAfter, wordsAfter, listOf, wordsOf};
+ghost use Rattle.requests.specs.Fields.{most, numberAt, fieldAt, lineAfter, wordsAfter};
+ghost use Rattle.requests.specs.Fields.{partOf, listOf, wordsOf};
 
 // The most that a field's number may be: a room is at most what there is.
 fn most(letter: u8) -> u64
@@ -39,17 +42,46 @@ fn number(letter: u8, line: &[u8], at: usize) -> Numeral
     }
 }
 
-// The deviations go into the first ROWS of the words, the correlations behind them.
+// Where a list goes in the words, and how its entries are spelled.
+struct Part {
+    start: usize,
+    end: usize,
+    entry: Entry,
+}
+
+// The deviations go first, the correlations behind them, and the states, in decimal, last.
+fn part_of(letter: u8) -> Part
+    ensures { λ r. ⌜ r ≡ partOf letter ⌝ }
+{
+    match letter {
+        b'S' => Part {
+            start: 0,
+            end: ROWS,
+            entry: Entry::Bits,
+        },
+        b'C' => Part {
+            start: ROWS,
+            end: ROWS + SLOTS,
+            entry: Entry::Bits,
+        },
+        _ => Part {
+            start: ROWS + SLOTS,
+            end: WORDS,
+            entry: Entry::UpTo(255),
+        },
+    }
+}
+
+// The list, into its part of the words.
 fn list_of(letter: u8, line: &[u8], at: usize, words: &mut [u64]) -> Numeral
     ensures { λ r. ⌜ r ≡ listOf letter (now (line .entry)) at (now (words .entry)) ⌝ }
     ensures { λ r. ⌜ now (words .exit) ≡ wordsOf letter (now (line .entry)) at (now (words .entry)) ⌝ }
 {
-    let rows = within_words(ROWS, words);
-    if letter == b'S' {
-        list(line, at, &mut words[..rows])
-    } else {
-        list(line, at, &mut words[rows..])
-    }
+    let part = part_of(letter);
+    let start = within_words(part.start, words);
+    let end = within_words(part.end, words);
+    let entry = part.entry;
+    list(entry, line, at, &mut words[start..end])
 }
 
 // What a letter stands for.
@@ -60,7 +92,7 @@ pub(crate) fn field(letter: u8, line: &mut [u8], at: usize, words: &mut [u64]) -
 {
     match letter {
         b'H' => byte_string(line, at),
-        b'S' | b'C' => list_of(letter, line, at, words),
+        b'C' | b'S' | b'T' => list_of(letter, line, at, words),
         _ => number(letter, line, at),
     }
 }

@@ -3,3 +3,4 @@ mod fields;
 mod form;
 pub mod limits;
 pub mod request;
+pub mod states;

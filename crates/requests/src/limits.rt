@@ -8,3 +8,6 @@ pub const BYTES: usize = 600_000;
 pub const ROWS: usize = 4 * SdccFlp::MAX_ROWS as usize;
 
 pub const SLOTS: usize = SdccFlp::MAX_SLOTS as usize + 1152;
+
+// The words hold the three lists that a request gives: deviations, correlations and states.
+pub const WORDS: usize = ROWS + SLOTS + SLOTS;

@@ -19,12 +19,14 @@ pub struct Request {
     pub second: u64,
     // H: how many bytes are given; J: a column
     pub given: u64,
-    // R and F: the room for bytes
+    // R: the room for bytes
     pub room: u64,
     // S and D: the deviations, or the room for them
     pub rows: u64,
     // C and E: the correlations, or the room for them
     pub slots: u64,
+    // T and F: the states, or the room for them
+    pub states: u64,
 }
 
 fn unfilled(form: usize) -> Request
@@ -39,6 +41,7 @@ fn unfilled(form: usize) -> Request
         room: 0,
         rows: 0,
         slots: 0,
+        states: 0,
     }
 }
 
@@ -51,9 +54,10 @@ impl Request {
             b'I' | b'P' | b'W' | b'X' => self.value = value,
             b'Y' => self.second = value,
             b'H' | b'J' => self.given = value,
-            b'F' | b'R' => self.room = value,
+            b'R' => self.room = value,
             b'D' | b'S' => self.rows = value,
             b'C' | b'E' => self.slots = value,
+            b'F' | b'T' => self.states = value,
             _ => {}
         }
         self

@@ -26,7 +26,7 @@ use Rattle.text.proofs.numeral.hex.Reads as hex
 use Rattle.text.proofs.numeral.literal.Reads as literal
 use Rattle.text.proofs.numeral.at_end.Reads as at-end
 use Rattle.text.proofs.numeral.decimal_up_to.Reads as decimal-up-to
-use Rattle.text.proofs.numeral.bits_after_space.Reads as bits-after-space
+use Rattle.text.proofs.numeral.entry_after_space.Reads as entry-after-space
 use Rattle.text.proofs.string.byte_string.Reads as byte-string
 
 pub within-one : OneResult within.Learnt
@@ -75,8 +75,8 @@ at-end-one κs a r r′ s s′ p q = p ∙ sym q
 pub decimal-up-to-one : OneResult decimal-up-to.Learnt
 decimal-up-to-one κs a r r′ s s′ p q = p ∙ sym q
 
-pub bits-after-space-one : OneResult bits-after-space.Learnt
-bits-after-space-one κs a r r′ s s′ p q = p ∙ sym q
+pub entry-after-space-one : OneResult entry-after-space.Learnt
+entry-after-space-one κs a r r′ s s′ p q = p ∙ sym q
 
 pub changed-one : OneResult changed.Learnt
 changed-one κs a r r′ s s′ p q = p ∙ sym q
@@ -91,10 +91,10 @@ mark-one κs a r r′ s s′ p q = (refl, p ∙ sym q)
 pub mark-words-one : OneAnswer mark-words.Learnt (λ κs s. now (s .0))
 mark-words-one κs a r r′ s s′ p q = (refl, p ∙ sym q)
 
-pub entries-one : OneAnswer entries.Learnt (λ κs s. now (s .1 .1 .0))
+pub entries-one : OneAnswer entries.Learnt (λ κs s. now (s .1 .1 .1 .0))
 entries-one κs a r r′ s s′ p q = (p .0 ∙ sym (q .0), p .1 ∙ sym (q .1))
 
-pub list-one : OneAnswer list.Learnt (λ κs s. now (s .1 .1 .0))
+pub list-one : OneAnswer list.Learnt (λ κs s. now (s .1 .1 .1 .0))
 list-one κs a r r′ s s′ p q = (p .0 ∙ sym (q .0), p .1 ∙ sym (q .1))
 
 pub byte-string-one : OneAnswer byte-string.Learnt (λ κs s. now (s .0))

@@ -4,6 +4,8 @@ use mathlib.Core.List.{List, [], _∷_}
 use lib.Dec.{eqb, ltb, leb}
 use lib.ListN.{getD, drop, length}
 use Rattle.answers.specs.Table.{pick}
+use Rattle.text.specs.declared.numeral.Entry.{Entry}
+use Rattle.text.specs.declared.numeral.Entry.the-variants.{Bits, UpTo}
 use Rattle.text.specs.declared.numeral.Numeral.{Numeral}
 use Rattle.text.specs.declared.numeral.Numeral.the-variants.{Read, Malformed}
 
@@ -67,6 +69,11 @@ abbrev pub decimalUpTo : ℕ → List ℕ → ℕ → Numeral
 decimalUpTo limit line at =
     then (decimalAt line at) (λ value next. pick (leb value limit) (Read value next) Malformed)
 
--- a space, and the bits of a binary64
-abbrev pub spacedBitsAt : List ℕ → ℕ → Numeral
-spacedBitsAt line at = then (literalAt 0x20 line at) (λ _ next. hexAt line next 16)
+-- an entry of a list: the bits of a binary64, or a decimal number up to a limit
+abbrev pub entryAt : Entry → List ℕ → ℕ → Numeral
+entryAt Bits line at = hexAt line at 16
+entryAt (UpTo limit) line at = decimalUpTo limit line at
+
+-- behind a space
+abbrev pub spacedAt : Entry → List ℕ → ℕ → Numeral
+spacedAt entry line at = then (literalAt 0x20 line at) (λ _ next. entryAt entry line next)

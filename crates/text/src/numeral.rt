@@ -2,12 +2,18 @@
 ghost use mathlib.Core.Path.{_≡_};
 ghost use lib.ListN.{getD};
 ghost use Rattle.text.specs.Numeral.{worth, digitAt, decimalAt, hexAt};
-ghost use Rattle.text.specs.Numeral.{literalAt, endAt, decimalUpTo, spacedBitsAt};
+ghost use Rattle.text.specs.Numeral.{literalAt, endAt, decimalUpTo, spacedAt};
 
 // A number, and where the line goes on.
 pub enum Numeral {
     Read { value: u64, next: usize },
     Malformed,
+}
+
+// How an entry of a list is spelled: the bits of a binary64, or in decimal up to a limit.
+pub enum Entry {
+    Bits,
+    UpTo(u64),
 }
 
 // What a byte is worth as an upper-case hex digit; 16 where it is none.
@@ -119,13 +125,16 @@ pub fn decimal_up_to(most: u64, line: &[u8], at: usize) -> Numeral
     Numeral::Read { value, next }
 }
 
-// A space, and the bits of a binary64.
-pub fn bits_after_space(line: &[u8], at: usize) -> Numeral
-    ensures { λ r. ⌜ r ≡ spacedBitsAt (now (line .entry)) at ⌝ }
+// A space, and an entry of a list.
+pub fn entry_after_space(entry: Entry, line: &[u8], at: usize) -> Numeral
+    ensures { λ r. ⌜ r ≡ spacedAt entry (now (line .entry)) at ⌝ }
 {
     let space = literal(b' ', line, at);
     let Numeral::Read { value: _, next } = space else {
         return Numeral::Malformed;
     };
-    hex(line, next, 16)
+    match entry {
+        Entry::Bits => hex(line, next, 16),
+        Entry::UpTo(limit) => decimal_up_to(limit, line, next),
+    }
 }

@@ -8,7 +8,7 @@ use Rattle.answers.specs.OneAnswer.{OneResult, OneAnswer}
 use Rattle.trip.specs.Tripped.{Lent, lentOf}
 use Rattle.answers.proofs.OneAnswer.{row-of-one}
 use Rattle.answers.proofs.row.row_of.Reads as row-of
-use Rattle.text.proofs.OneAnswer.{within-one, within-words-one, put-byte-one, put-text-one, put-decimal-one, put-named-one, put-hex-one, put-bits-one, digit-at-one, decimal-one, hex-one, literal-one, at-end-one, decimal-up-to-one, bits-after-space-one, entries-one, list-one, byte-string-one, mark-one, mark-words-one, changed-one, words-changed-one}
+use Rattle.text.proofs.OneAnswer.{within-one, within-words-one, put-byte-one, put-text-one, put-decimal-one, put-named-one, put-hex-one, put-bits-one, digit-at-one, decimal-one, hex-one, literal-one, at-end-one, decimal-up-to-one, entry-after-space-one, entries-one, list-one, byte-string-one, mark-one, mark-words-one, changed-one, words-changed-one}
 use Rattle.text.proofs.part.within.Reads as within
 use Rattle.text.proofs.part.within_words.Reads as within-words
 use Rattle.text.proofs.put.put_byte.Reads as put-byte
@@ -23,7 +23,7 @@ use Rattle.text.proofs.numeral.hex.Reads as hex
 use Rattle.text.proofs.numeral.literal.Reads as literal
 use Rattle.text.proofs.numeral.at_end.Reads as at-end
 use Rattle.text.proofs.numeral.decimal_up_to.Reads as decimal-up-to
-use Rattle.text.proofs.numeral.bits_after_space.Reads as bits-after-space
+use Rattle.text.proofs.numeral.entry_after_space.Reads as entry-after-space
 use Rattle.text.proofs.list.entries.Reads as entries
 use Rattle.text.proofs.list.list.Reads as list
 use Rattle.text.proofs.string.byte_string.Reads as byte-string
@@ -156,8 +156,9 @@ use Rattle.shown.proofs.lines.put_slots.Reads as put-slots
 use Rattle.shown.proofs.touched.put_touched.Reads as put-touched
 use Rattle.shown.proofs.written.put_written.Reads as put-written
 use Rattle.shown.proofs.pack.put_pack.Reads as put-pack
-use Rattle.requests.proofs.OneAnswer.{read-request-one}
+use Rattle.requests.proofs.OneAnswer.{read-request-one, states-of-one}
 use Rattle.requests.proofs.request.read_request.Reads as read-request
+use Rattle.requests.proofs.states.states_of.Reads as states-of
 use Rattle.trip.proofs.OneAnswer.{round-trip-one}
 use Rattle.trip.proofs.round_trip.round_trip.Reads as round-trip
 
@@ -179,9 +180,9 @@ pub record Determined : Type 0 where
   pub literal-determined : OneResult literal.Learnt
   pub at-end-determined : OneResult at-end.Learnt
   pub decimal-up-to-determined : OneResult decimal-up-to.Learnt
-  pub bits-after-space-determined : OneResult bits-after-space.Learnt
-  pub entries-determined : OneAnswer entries.Learnt (λ κs s. now (s .1 .1 .0))
-  pub list-determined : OneAnswer list.Learnt (λ κs s. now (s .1 .1 .0))
+  pub entry-after-space-determined : OneResult entry-after-space.Learnt
+  pub entries-determined : OneAnswer entries.Learnt (λ κs s. now (s .1 .1 .1 .0))
+  pub list-determined : OneAnswer list.Learnt (λ κs s. now (s .1 .1 .1 .0))
   pub byte-string-determined : OneAnswer byte-string.Learnt (λ κs s. now (s .0))
   pub mark-determined : OneAnswer mark.Learnt (λ κs s. now (s .0))
   pub mark-words-determined : OneAnswer mark-words.Learnt (λ κs s. now (s .0))
@@ -280,6 +281,7 @@ pub record Determined : Type 0 where
   pub print-why-determined : OneAnswer print-why.Learnt (λ κs s. now (s .1 .0))
   -- what replay is asked, and what it answers
   pub read-request-determined : OneAnswer {L = List ℕ × List ℕ} read-request.Learnt (λ κs s. (now (s .0), now (s .1 .0)))
+  pub states-of-determined : OneAnswer states-of.Learnt (λ κs s. now (s .1 .0))
   pub letter-determined : OneResult letter.Learnt
   pub is-field-determined : OneResult is-field.Learnt
   pub one-determined : OneResult one.Learnt
@@ -325,7 +327,7 @@ determined =
       literal-determined = literal-one;
       at-end-determined = at-end-one;
       decimal-up-to-determined = decimal-up-to-one;
-      bits-after-space-determined = bits-after-space-one;
+      entry-after-space-determined = entry-after-space-one;
       entries-determined = entries-one;
       list-determined = list-one;
       byte-string-determined = byte-string-one;
@@ -413,6 +415,7 @@ determined =
       put-account-determined = put-account-one;
       print-why-determined = print-why-one;
       read-request-determined = read-request-one;
+      states-of-determined = states-of-one;
       letter-determined = letter-one;
       is-field-determined = is-field-one;
       one-determined = one-one;

@@ -1,7 +1,7 @@
 -- `list::entries` meets its contract. The invariant: what is left to read answers and stores as all of it.
 -- Assumes nothing.
-use mathlib.Core.Path.{_≡_, sym, _∙_}
-use Prim.Native.Nat.{_-_, _<_}
+use mathlib.Core.Path.{sym, _∙_}
+use Prim.Native.Nat.{_-_}
 use native.Mathlib.Omega.{arith}
 use borrow.Author.Needs.{needs}
 use lib.ListN.{length}
@@ -10,16 +10,17 @@ use Rattle.text.proofs.list.entries.Statement.{statement}
 use Rattle.text.proofs.list.entries.Tie as tie
 
 abbrev Inv-loop : tie.InvT-loop
-Inv-loop line at list₀ next₀ i₀ list next i = Entered line at list₀ list next i
+Inv-loop entry line at list₀ next₀ i₀ list next i = Entered entry line at list₀ list next i
 
 abbrev μ-loop : tie.MeasureT-loop
-μ-loop line at list₀ next₀ i₀ list next i = length list₀ - i
+μ-loop entry line at list₀ next₀ i₀ list next i = length list₀ - i
 
 returns : tie.Need-returns Inv-loop μ-loop
 returns c =
     let l = c .before .before .before in
     let p = l .before .loop .inv in
-    entered-bad p (omega (arith, p .long)) (sym (c .before .before .bits-after-space .ensures) ∙ c .enum-told .given .1)
+    entered-bad p (omega (arith, p .long))
+    (sym (c .before .before .entry-after-space .ensures) ∙ c .enum-told .given .1)
 
 loop-less : tie.Need-loop-less Inv-loop μ-loop
 loop-less c = omega (arith, c .before .before .before .before .before .loop .inv .long)
@@ -28,7 +29,7 @@ loop-again : tie.Need-loop-again Inv-loop μ-loop
 loop-again c =
     let b = c .before .before .before in
     let p = b .before .before .loop .inv in
-    entered-more p (omega (arith, p .long)) (sym (b .bits-after-space .ensures) ∙ c .before .number .given .1)
+    entered-more p (omega (arith, p .long)) (sym (b .entry-after-space .ensures) ∙ c .before .number .given .1)
 
 returns-2 : tie.Need-returns-2 Inv-loop μ-loop
 returns-2 c =

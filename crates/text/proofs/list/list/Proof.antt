@@ -32,7 +32,7 @@ returns-2 c =
     let e = c .before .before in
     let k = e .before .before in
     let a = k .before .before .before .before .before .before .args in
-    listed-all (a .line .now) (a .room .now) (a .at) (was-read k) (e .entries .ensures)
+    listed-all (a .line .now) (a .room .now) (a .at) (was-read k) (a .entry) (e .entries .ensures)
 
 pub list-spec : {M : Type 1} → statement M
 list-spec =

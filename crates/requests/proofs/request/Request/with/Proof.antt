@@ -1,5 +1,6 @@
 -- `request::Request::with` meets its contract, by the letter.
 -- Assumes nothing.
+use mathlib.Core.Path.{_≡_}
 use mathlib.Core.Logic.{⊎-elim}
 use native.Mathlib.Omega.{arith}
 use borrow.Author.Tests.{ne-eqb}
@@ -23,7 +24,7 @@ returns-3 c = ⊎-elim (λ e. rw e) (λ e. rw e) (c .match .keys4)
 
 returns-4 : tie.Need-returns-4
 unfolding with
-returns-4 c = ⊎-elim (λ e. rw e) (λ e. rw e) (c .match .keys5)
+returns-4 c = rw (c .match .keys5)
 
 returns-5 : tie.Need-returns-5
 unfolding with
@@ -35,45 +36,43 @@ returns-6 c = ⊎-elim (λ e. rw e) (λ e. rw e) (c .match .keys7)
 
 returns-7 : tie.Need-returns-7
 unfolding with
-returns-7 c =
-    let l = c .before .before .args .letter in
-    let r = c .before .match .rest in
+returns-7 c = ⊎-elim (λ e. rw e) (λ e. rw e) (c .match .keys8)
+
+-- a letter that says nothing
+other : (c : tie.At-match-rest) → let a = c .before .args in
+    (a .letter ≡ 0x57 → ⊥) → (a .letter ≡ 0x58 → ⊥) → a .self ≡ with (a .letter) (a .value) (a .self)
+unfolding with
+other c w x =
+    let l = c .before .args .letter in
+    let r = c .match .rest in
     rw (
-      ne-eqb l 0x4e (r .0 .0 .0 .0 .0 .0 .1),
-      neither _ _ l (r .0 .0 .0 .0 .0 .1),
-      ne-eqb l 0x59 (r .0 .0 .0 .0 .1),
-      neither _ _ l (r .0 .0 .0 .1),
+      ne-eqb l 0x4e (r .0 .0 .0 .0 .0 .0 .0 .1),
+      neither _ _ l (r .0 .0 .0 .0 .0 .0 .1),
+      ne-eqb l 0x59 (r .0 .0 .0 .0 .0 .1),
+      neither _ _ l (r .0 .0 .0 .0 .1),
+      ne-eqb l 0x52 (r .0 .0 .0 .1),
       neither _ _ l (r .0 .0 .1),
       neither _ _ l (r .0 .1),
       neither _ _ l (r .1),
-      ne-eqb l 0x57 (omega arith),
-      ne-eqb l 0x58 (omega arith),
+      ne-eqb l 0x57 w,
+      ne-eqb l 0x58 x,
     )
 
 returns-8 : tie.Need-returns-8
-unfolding with
-returns-8 c =
-    let l = c .before .before .before .args .letter in
-    let r = c .before .before .match .rest in
-    rw (
-      ne-eqb l 0x4e (r .0 .0 .0 .0 .0 .0 .1),
-      neither _ _ l (r .0 .0 .0 .0 .0 .1),
-      ne-eqb l 0x59 (r .0 .0 .0 .0 .1),
-      neither _ _ l (r .0 .0 .0 .1),
-      neither _ _ l (r .0 .0 .1),
-      neither _ _ l (r .0 .1),
-      neither _ _ l (r .1),
-      ne-eqb l 0x57 (omega arith),
-      ne-eqb l 0x58 (omega arith),
-    )
+returns-8 c = other (c .before) (λ e. omega arith) (λ e. omega arith)
 
 returns-9 : tie.Need-returns-9
-unfolding with
-returns-9 c = ⊎-elim (λ e. rw e) (λ e. rw e) (c .match .keys2)
+returns-9 c = other (c .before .before) (λ e. omega arith) (λ e. omega arith)
 
 returns-10 : tie.Need-returns-10
 unfolding with
-returns-10 c = ⊎-elim (λ e. rw e) (λ e. rw e) (one-of-two 0x57 (c .before .before .before .args .letter) (omega arith) (omega arith))
+returns-10 c = ⊎-elim (λ e. rw e) (λ e. rw e) (c .match .keys2)
+
+returns-11 : tie.Need-returns-11
+unfolding with
+returns-11 c =
+    let l = c .before .before .before .args .letter in
+    ⊎-elim (λ e. rw e) (λ e. rw e) (one-of-two 0x57 l (omega arith) (omega arith))
 
 pub with-spec : {M : Type 1} → statement M
 with-spec =
@@ -88,4 +87,5 @@ with-spec =
     returns-7
     returns-8
     returns-9
-    returns-10)
+    returns-10
+    returns-11)
