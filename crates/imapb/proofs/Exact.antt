@@ -1,9 +1,9 @@
 -- Where nothing is rounded: both scalings at every length, and up to 6 bytes the whole of a reading.
 -- Assumes nothing.
-use mathlib.Core.Path.{_≡_, refl, ap, subst}
-use mathlib.Core.Bool.{Bool, false}
+use mathlib.Core.Path.{_≡_, refl, ap, subst, _∙_}
+use mathlib.Core.Bool.{Bool, true, false}
 use Prim.Native.Nat.{ℕ, suc, _+_, _-_, _*_, _^_, _≤_, _<_}
-use native.Mathlib.Nat.{le-trans, le-of-lt, lt-of-not-le, not-le-of-lt, lt-of-le-of-lt, lt-of-lt-of-le, mul-le-mul-left, mul-le-mul-right, eq-of-mul-eq-mul-right}
+use native.Mathlib.Nat.{le-trans, le-of-eq, pow-succ', le-of-lt, lt-of-not-le, not-le-of-lt, lt-of-le-of-lt, lt-of-lt-of-le, mul-le-mul-left, mul-le-mul-right, eq-of-mul-eq-mul-right}
 use native.Mathlib.Decide.{decLe}
 use native.Mathlib.Omega.{arith}
 use lib.Dec.{T}
@@ -19,8 +19,9 @@ use lib.Ieee.Back.{round-whole}
 use Rattle.imapb.specs.Mapping.{one, power, scaleOf, topOf, value, valueOf, inRange}
 use Rattle.imapb.proofs.Rounded.{cut, apart, steps-le, kept-few, rounded-top}
 use Rattle.imapb.proofs.Units.{Counts, by-value, exact, int-is, div-is, round-counts}
-use Rattle.imapb.proofs.Above.{Lies}
+use Rattle.imapb.proofs.Above.{Over, Lies}
 use Rattle.imapb.proofs.Mapped.{wide, roundedIn, sum-counts, product, value-lies}
+use Rattle.imapb.proofs.Range.{value-in}
 use Rattle.imapb.proofs.UnitRange.{step, ones, split-of, range-of, place-of}
 
 -- two fractions for one number are equal, and one number has every fraction that is equal to one of its own
@@ -96,6 +97,11 @@ module _ (L : ℕ) (least : 1 ≤ L) (most : L ≤ 8) where
       → HasValue (ofInt binary64 (pos y)) false a c → HasValue (div binary64 (ofInt binary64 (pos y)) (scaleOf L)) false a (c * 2 ^ (8 * L - 2))
   quotient-exact y h a c = quotient-is binary64 (8 * L - 2) y a c (omega arith) (le-of-lt h)
 
+-- n units above -w, and at most w above 0
+over-within : (s : Bool) (a w n : ℕ) → Over s a w n → n ≤ 2 * w → a ≤ w
+over-within false a w n o m = omega arith
+over-within true a w n o m = omega arith
+
 -- ---- up to 6 bytes
 module _ (L : ℕ) (least : 1 ≤ L) (few : L ≤ 6) (y : ℕ) where
   pub int-exact : y < 2 ^ (8 * L) → HasValue (ofInt binary64 (pos y)) false y 1
@@ -109,3 +115,11 @@ module _ (L : ℕ) (least : 1 ≤ L) (few : L ≤ 6) (y : ℕ) where
       let most : L ≤ 8 = omega arith in
       subst (λ (w : ℕ). Lies binary64 w (y * 2 ^ step L) (valueOf L y)) (ones binary64 (8 * L - 2) (step L) (split-of L least most))
       (value-lies (range-of L least most) (omega arith) y (le-trans h (pow-mono (omega arith))))
+
+  -- so a code up to that of 1 reads as a number from -1 to 1
+  pub value-ranged : y ≤ topOf L → inRange (valueOf L y) ≡ true
+  value-ranged h =
+      let l = value-exact h in
+      let e : 8 * L - 1 + step L ≡ 1075 = omega arith in
+      let m : y * 2 ^ step L ≤ 2 * 2 ^ 1074 = le-trans (steps-le y (8 * L - 1) (step L) h) (le-of-eq (ap (λ (x : ℕ). 2 ^ x) e ∙ pow-succ' 2 1074)) in
+      value-in (valueOf L y) (l .sign) (l .size) (2 ^ 1074) (pow-pos 1074) (l .counts) (over-within (l .sign) (l .size) (2 ^ 1074) (y * 2 ^ step L) (l .over) m)

@@ -58,7 +58,7 @@ fin-out false m e h =
 fin-out true m e h =
     rw (le-ltb (m * up e * 1) (1 * down e) (omega arith), ne-eqb (1 * down e) (m * up e * 1) (omega arith))
 
-value-in : (x : Float) (s : Bool) (a c : ℕ) → 0 < c → HasValue x s a c → a ≤ c → inRange x ≡ true
+pub value-in : (x : Float) (s : Bool) (a c : ℕ) → 0 < c → HasValue x s a c → a ≤ c → inRange x ≡ true
 value-in nan s a c C h l = absurd h
 value-in (inf t) s a c C h l = absurd h
 value-in (fin t m e) s a c C h l = fin-in t m e (transfer (m * up e) 1 (down e) 1 a 1 c 1 C (lit< tt) (h .1) refl (omega arith))
