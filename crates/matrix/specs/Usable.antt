@@ -1,4 +1,4 @@
--- Document 01, "Usable".
+-- Document 01, "Usable", and what document 02, K6, adds to it.
 use Prim.Native.Nat.{ℕ, zero, suc}
 use mathlib.Core.Bool.{Bool, true, false, _&&_, _||_}
 use mathlib.Core.List.{List, [], _∷_}
@@ -39,6 +39,15 @@ firstAll test zero lent = true
 firstAll test (suc count) [] = false
 firstAll test (suc count) (x ∷ lent) = test x && firstAll test count lent
 
--- yes where each part says so
-abbrev pub isUsable : SdccFlp → List ℕ → List ℕ → Bool
-isUsable p ds cs = countsFit p && firstAll isDeviation (p .deviations) ds && firstAll isCorrelation (p .slots) cs
+-- a state is that of an absent slot, 0, or of a value, 1: a special, a reserved pattern and what is out of range are no
+-- correlations
+abbrev pub isSettled : ℕ → Bool
+isSettled state = leb state 1
+
+-- yes where each part says so; the last line is document 02's: M states, each of them settled
+abbrev pub isUsable : SdccFlp → ℕ → List ℕ → List ℕ → List ℕ → Bool
+isUsable p count ds cs ss =
+    countsFit p
+    && firstAll isDeviation (p .deviations) ds
+    && firstAll isCorrelation (p .slots) cs
+    && (eqb count (slotsOf (p .«matrix_size»)) && firstAll isSettled count ss)

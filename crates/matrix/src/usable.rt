@@ -4,7 +4,8 @@ use imapb::encode::check_range;
 use layout::pack::SdccFlp;
 use layout::triangle::corr_slots;
 ghost use mathlib.Core.Path.{_≡_};
-ghost use Rattle.matrix.specs.Usable.{countsFit, isDeviation, isCorrelation, firstAll, isUsable};
+ghost use mathlib.Core.Bool.{_&&_};
+ghost use Rattle.matrix.specs.Usable.{countsFit, isDeviation, isCorrelation, isSettled, firstAll, isUsable};
 
 // The bits of the infinity, above which stand only NaNs and negative numbers, and of -0.0.
 const INFINITY: u64 = 0x7ff0_0000_0000_0000;
@@ -66,16 +67,31 @@ fn deviations_fit(count: usize, deviations: &[u64]) -> bool
     true
 }
 
-// So many correlations, each of them one that can be used.
-fn correlations_fit(count: usize, correlations: &[u64]) -> bool
-    ensures { λ r. ⌜ r ≡ firstAll isCorrelation count (now (correlations .entry)) ⌝ }
+// A slot that can be used: absent or a value, from -1 to 1. Any other slot reads 0.0, so its state alone tells it.
+fn slot_fits(bits: u64, state: u8) -> bool
+    ensures { λ r. ⌜ r ≡ (isCorrelation bits && isSettled state) ⌝ }
+{
+    if state < 2 {
+        is_correlation(bits)
+    } else {
+        false
+    }
+}
+
+// So many slots, each of them one that can be used.
+fn slots_fit(count: usize, correlations: &[u64], states: &[u8]) -> bool
+    ensures { λ r. ⌜ r
+        ≡ (firstAll isCorrelation count (now (correlations .entry)) && firstAll isSettled count (now (states .entry))) ⌝ }
 {
     if correlations.len() < count {
         return false;
     }
+    if states.len() < count {
+        return false;
+    }
     let mut k: usize = 0;
     while k < count {
-        if !is_correlation(correlations[k]) {
+        if !slot_fits(correlations[k], states[k]) {
             return false;
         }
         k += 1;
@@ -83,15 +99,25 @@ fn correlations_fit(count: usize, correlations: &[u64]) -> bool
     true
 }
 
-// Whether the numbers that a pack counts are those of a matrix.
-pub fn usable(pack: SdccFlp, deviations: &[u64], correlations: &[u64]) -> bool
-    ensures { λ r. ⌜ r ≡ isUsable pack (now (deviations .entry)) (now (correlations .entry)) ⌝ }
+// Whether the numbers that a pack counts, with so many states, are those of a matrix.
+pub fn usable(
+    pack: SdccFlp,
+    state_count: usize,
+    deviations: &[u64],
+    correlations: &[u64],
+    states: &[u8],
+) -> bool
+    ensures { λ r. ⌜ r
+        ≡ isUsable pack «state_count» (now (deviations .entry)) (now (correlations .entry)) (now (states .entry)) ⌝ }
 {
     if !counts_fit(pack) {
+        return false;
+    }
+    if state_count != pack.slots {
         return false;
     }
     if !deviations_fit(pack.deviations, deviations) {
         return false;
     }
-    correlations_fit(pack.slots, correlations)
+    slots_fit(pack.slots, correlations, states)
 }

@@ -4,11 +4,10 @@ use mathlib.Core.Path.{_≡_, refl, sym, ap, _∙_}
 use mathlib.Core.List.{List}
 use Prim.Native.Nat.{ℕ, min, max, _-_, _≤_, _<_}
 use native.Mathlib.Omega.{arith}
-use lib.ListN.{length, drop, length-append, List·getD-append}
+use lib.ListN.{length}
 use borrow.Author.Tests.{eq-eqb, ne-eqb}
 use Rattle.answers.specs.Lent.{over, tab}
 use Rattle.answers.specs.Table.{Answer}
-use Rattle.answers.proofs.Lent.{length-tab, getD-tab}
 use Rattle.answers.proofs.Next.{next-zero}
 use Rattle.layout.specs.Header.{matrixSize, controlOf, bodyAt, headRules}
 use Rattle.layout.specs.Size.{maxRows, sizeRules}
@@ -20,21 +19,21 @@ use Rattle.layout.proofs.RowByRow.{row-by-row}
 use Rattle.elements.specs.Elements.{headOf, deviationCount, deviations, correlations}
 use Rattle.elements.specs.Listed.{packOf}
 use Rattle.reader.specs.Listed.{packAnswer}
-use Rattle.reader.specs.Rules.{readAnswer}
+use Rattle.reader.specs.Rules.{readAnswerIn, readAnswer}
+use Rattle.deviations.specs.declared.form.DeviationRange.{DeviationRange}
 use Rattle.deviations.specs.declared.form.DeviationRange.the-variants.{Unknown}
 use Rattle.reader.proofs.Peeked.{read-done, read-fits}
 use Rattle.reader.proofs.OneAnswer.{pack-one}
 use Rattle.matrix.specs.Lookup.{number, entryAnswer}
 use Rattle.matrix.proofs.Cells.{entry-held, entry-none, no-row, no-column, diagonal, pair}
+use Rattle.trip.proofs.Stood.{over-long, over-at}
 use Rattle.trip.specs.Cells.{deviationRead, slotRead, cellRead, CellsRead}
 
 -- an entry that was stored, over what was there
 stored : (n : ℕ) (f : ℕ → ℕ) (lent : List ℕ) (k i j : ℕ) → k < n → entryAnswer (over (tab n f) lent) n k i j ≡ number (f k)
 stored n f lent k i j h =
-    let rest = drop (length (tab n f)) lent in
-    let b : k < length (tab n f) = rw (length-tab n f) h in
-    let l : k < length (over (tab n f) lent) = rw length-append (omega arith) in
-    entry-held (over (tab n f) lent) n k i j h l ∙ rw (List·getD-append (tab n f) rest 0 k b, getD-tab n f k h)
+    let l : k < length (over (tab n f) lent) = omega (arith, over-long n f (tab n f) lent refl) in
+    entry-held (over (tab n f) lent) n k i j h l ∙ ap number (over-at n f (tab n f) lent refl k h)
 
 module _ (bytes ds₀ cs₀ : List ℕ) (rows : matrixSize bytes ≤ maxRows) where
   -- N, and what the reader left
@@ -82,7 +81,7 @@ rows-read bytes d c s e =
 pub cells-read : (bytes ds₀ cs₀ ss₀ : List ℕ) → readAnswer bytes (length ds₀) (length cs₀) (length ss₀) .number ≡ 0 → CellsRead bytes ds₀ cs₀
 cells-read bytes ds₀ cs₀ ss₀ e = cells bytes ds₀ cs₀ (rows-read bytes (length ds₀) (length cs₀) (length ss₀) e)
 
--- the pack that the reader gives is the one looked up in
-pub pack-read : (bytes : List ℕ) (d c s : ℕ) (pack : SdccFlp) → packAnswer pack ≡ readAnswer bytes d c s → pack ≡ packOf (headOf bytes)
-pack-read bytes d c s pack e =
-    pack-one pack (packOf (headOf bytes)) (e ∙ read-done Unknown bytes d c s (ap (λ (a : Answer). a .number) (sym e)))
+-- the pack that the reader gives, over a range or none, is the one looked up in
+pub pack-read : (range : DeviationRange) (bytes : List ℕ) (d c s : ℕ) (pack : SdccFlp) → packAnswer pack ≡ readAnswerIn range bytes d c s → pack ≡ packOf (headOf bytes)
+pack-read range bytes d c s pack e =
+    pack-one pack (packOf (headOf bytes)) (e ∙ read-done range bytes d c s (ap (λ (a : Answer). a .number) (sym e)))

@@ -13,6 +13,7 @@ pub mod Stood
 pub mod Wrote
 pub mod Tripped
 pub mod Cells
+pub mod Usable
 pub mod OneAnswer
 pub mod Answered
 pub mod Told

@@ -21,7 +21,7 @@ unfolding oidRead slotsOf
 shorts-right = refl
 
 pub states-right : outcomes stateTable ≡ expected stateTable
-unfolding oidRead wordOf slotsOf converted nearest value ofBits toBits ofInt sub div round nanBits
+unfolding oidRead wordOf slotsOf converted nearest value ofBits toBits ofInt sub div le round nanBits
 states-right = refl
 
 pub ranges-right : outcomes rangeTable ≡ expected rangeTable

@@ -16,6 +16,7 @@ use lib.Ieee.Fits.{sub-fits}
 use Rattle.answers.specs.Table.{answer, wholes, pick, passes}
 use Rattle.answers.specs.Lent.{tab}
 use Rattle.answers.proofs.Lent.{length-tab, getD-tab, tab-same}
+use Rattle.answers.proofs.Rules.{by-bool}
 use Rattle.numbers.proofs.Patterns.{subnormal-value}
 use Rattle.imapb.specs.Mapping.{value, inRange, codeOf, valueOf}
 use Rattle.imapb.proofs.Above.{Lies, Over}
@@ -78,15 +79,11 @@ module _ (L c : ℕ) where
       near binary64 above (below L) 0 0 0 (ofBits binary64 c) (ofBits binary64 0) (zero-lies c z) (zero-lies 0 refl) zero-le
       (omega (arith, pow-pos (1076 - 8 * L)))
 
-  -- either, by what the form does with it
-  slot-near : (sparse : Bool) → 1 ≤ L → L ≤ 6 → T (inRange (ofBits binary64 c))
-      → NearTo L c (pick (not (sparse && isZero c)) (correlationKept L c) 0)
-  slot-near false least most ranged = sent-near least most ranged
-  slot-near true least most ranged = go (isZero c) refl
-    where
-      go : (z : Bool) → isZero c ≡ z → NearTo L c (pick (not z) (correlationKept L c) 0)
-      go true z = left-near z
-      go false z = sent-near least most ranged
+  -- what holds of the value of its code, and of 0 where it is 0, holds of what the form makes of it
+  pub slot-by : (P : ℕ → Type 0) (sparse : Bool) → P (correlationKept L c) → (isZero c ≡ true → P 0)
+      → P (pick (not (sparse && isZero c)) (correlationKept L c) 0)
+  slot-by P false kept left = kept
+  slot-by P true kept left = by-bool (isZero c) (λ z. rw z (left z)) (λ z. rw z kept)
 
 -- ---- the states of a sparse pack: what IEEE 754 holds equal to 0 is left out
 sparse-states : (cs : List ℕ) → tab (length cs) (λ k. pick (sent true cs k) 1 0)
@@ -106,7 +103,7 @@ module _ (ds cs : List ℕ) (L : ℕ) (s : Sendable ds cs L) where
   sparse = isSparse ds cs L
 
   -- slot k as it is read
-  abbrev slot : ℕ → ℕ
+  abbrev pub slot : ℕ → ℕ
   slot k = pick (sent sparse cs k) (correlationKept L (getD cs k 0)) 0
 
   -- the pack reads back, by its form
@@ -118,7 +115,7 @@ module _ (ds cs : List ℕ) (L : ℕ) (s : Sendable ds cs L) where
   deviations-are = read-back .deviations ∙ tab-same (length ds) (λ i h. kept-rounding (getD ds i 0) (s .numbers i h))
 
   -- its correlations are the slots
-  correlations-are : correlations bytes (headOf bytes) ≡ tab (length cs) slot
+  pub correlations-are : correlations bytes (headOf bytes) ≡ tab (length cs) slot
   correlations-are = read-back .correlations (s .ranged)
 
   -- what was sent comes back
@@ -130,7 +127,7 @@ module _ (ds cs : List ℕ) (L : ℕ) (s : Sendable ds cs L) where
         count = rw correlations-are (length-tab (length cs) slot);
         correlations =
             λ k h.
-            rw (correlations-are, getD-tab (length cs) slot k h) (slot-near L (getD cs k 0) sparse (s .least) (s .most) (s .ranged k h));
+            rw (correlations-are, getD-tab (length cs) slot k h) (slot-by L (getD cs k 0) (NearTo L (getD cs k 0)) sparse (sent-near L (getD cs k 0) (s .least) (s .most) (s .ranged k h)) (left-near L (getD cs k 0)));
         sparse = λ e. read-back .states (s .ranged) ∙ rw e (sparse-states cs);
         full = λ e. read-back .states (s .ranged) ∙ rw e;
       }

@@ -3,17 +3,16 @@
 use mathlib.Core.Path.{_≡_, refl, sym, ap, _∙_}
 use mathlib.Core.Bool.{Bool, true, false, not, _&&_}
 use mathlib.Core.List.{List, [], _∷_}
-use Prim.Native.Nat.{ℕ, _≤_, _<_}
-use native.Mathlib.Omega.{arith}
+use Prim.Native.Nat.{ℕ, _<_}
 use borrow.Author.Tests.{eq-eqb}
 use lib.Dec.{eqb}
-use lib.ListN.{length, take, drop, getD, length-append, List·getD-append}
+use lib.ListN.{length, take, getD}
 use Rattle.answers.specs.Table.{Answer, answer, wholes, pick}
 use Rattle.answers.specs.Listed.{listed}
 use Rattle.answers.specs.Lent.{over, leaves, tab}
 use Rattle.answers.specs.declared.Refusal.{Refusal}
 use Rattle.answers.proofs.OneToOne.{refused-not-done}
-use Rattle.answers.proofs.Lent.{refused-leaves, length-tab, getD-tab}
+use Rattle.answers.proofs.Lent.{refused-leaves}
 use Rattle.answers.proofs.Next.{next-passed}
 use Rattle.elements.specs.Elements.{headOf, deviations, correlations, states}
 use Rattle.reader.specs.Rules.{readAnswer}
@@ -28,23 +27,8 @@ use Rattle.trip.specs.Compared.{deviationAgrees, slotAgrees, numbersAgre
 use Rattle.trip.specs.Tripped.{Lent, Roomy, tripAnswer, leftBy, Tripped}
 use Rattle.trip.proofs.Compared.{every-true}
 use Rattle.trip.proofs.RoundTrip.{read-back, round-trip}
-use Rattle.trip.proofs.Stood.{done-front}
+use Rattle.trip.proofs.Stood.{done-front, long-front, over-long, over-at}
 use Rattle.trip.proofs.Wrote.{written-back, written-clen, written-range, Wrote, is-done, pack-read}
-
--- ---- a list over the front of what was lent
-module _ (n : ℕ) (f : ℕ → ℕ) (front lent : List ℕ) (e : front ≡ tab n f) where
-  -- its length
-  long-front : length front ≡ n
-  long-front = rw e (length-tab n f)
-
-  -- there is room for it
-  over-long : n ≤ length (over front lent)
-  over-long = rw length-append (omega (arith, long-front))
-
-  -- an entry of it
-  over-at : (k : ℕ) → k < n → getD (over front lent) k 0 ≡ f k
-  over-at k h =
-      List·getD-append front (drop (length front) lent) 0 k (rw long-front h) ∙ ap (λ (l : List ℕ). getD l k 0) e ∙ getD-tab n f k h
 
 -- a slot, sent or left out, agrees with itself
 slot-same : (sparse : Bool) (L c : ℕ) {r p : ℕ} → r ≡ pick (not (sparse && isZero c)) (correlationKept L c) 0 → p ≡ pick (not (sparse && isZero c)) 1 0

@@ -1,8 +1,9 @@
-pub mod Packs
 pub mod Found
 pub mod Values
 pub mod Back
 pub mod RoundTrip
+pub mod Usable
+pub mod Packs
 pub mod Compared
 pub mod Tripped
 pub mod Cells

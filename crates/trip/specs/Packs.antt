@@ -1,5 +1,6 @@
 -- Document 01, "Packs and values on both sides of each limit": the marked ones, P1 to P12.
 use Prim.Native.Nat.{ℕ}
+use mathlib.Core.Bool.{Bool, true, false}
 use mathlib.Core.List.{List, [], _∷_, _++_}
 use lib.Dec.{eqb}
 use lib.ListN.{length, replicate}
@@ -13,16 +14,22 @@ use Rattle.deviations.specs.Range.{deviationsOver}
 use Rattle.reader.specs.Rules.{readAnswerIn}
 use Rattle.writer.specs.Pack.{packBytes}
 use Rattle.writer.specs.Rules.{writeAnswer}
+use Rattle.trip.specs.Usable.{usableRead}
 
--- what reading gives: the answer, and where it is done the three lists
+-- what reading gives: the answer, and where it is done the three lists, and whether they are usable
 pub record Outcome : Type 0 where
   pub answers : Answer
   pub deviations : List ℕ
   pub correlations : List ℕ
   pub states : List ℕ
+  pub usable : Bool
 
-abbrev pub outcomeOf : Answer → List ℕ → List ℕ → List ℕ → Outcome
-outcomeOf a ds cs ss = record { answers = a; deviations = ds; correlations = cs; states = ss }
+abbrev pub outcomeOf : Answer → List ℕ → List ℕ → List ℕ → Bool → Outcome
+outcomeOf a ds cs ss u = record { answers = a; deviations = ds; correlations = cs; states = ss; usable = u }
+
+-- nothing was read, and so nothing can be used
+abbrev pub refused : Answer → Outcome
+refused a = outcomeOf a [] [] [] false
 
 -- over a range or none, with room enough for any pack within the limits
 abbrev pub outcome : DeviationRange → List ℕ → Outcome
@@ -32,15 +39,12 @@ outcome range bytes = given (readAnswerIn range bytes maxRows maxSlots maxSlots)
     given a =
         pick (eqb (a .number) 0)
         (outcomeOf a (deviationsOver range bytes (headOf bytes)) (correlations bytes (headOf bytes))
-        (states bytes (headOf bytes)))
-        (outcomeOf a [] [] [])
+        (states bytes (headOf bytes)) (usableRead range bytes [] [] []))
+        (refused a)
 
 -- done, with N, the deviation count and M
-abbrev pub done : ℕ → ℕ → ℕ → List ℕ → List ℕ → List ℕ → Outcome
-done n d m ds cs ss = outcomeOf (answer 0 (wholes (n ∷ d ∷ m ∷ []))) ds cs ss
-
-abbrev pub refused : Answer → Outcome
-refused a = outcomeOf a [] [] []
+abbrev pub done : ℕ → ℕ → ℕ → List ℕ → List ℕ → List ℕ → Bool → Outcome
+done n d m ds cs ss u = outcomeOf (answer 0 (wholes (n ∷ d ∷ m ∷ []))) ds cs ss u
 
 -- 1 and 2 as binary32, and as binary64
 abbrev D : List ℕ
@@ -62,23 +66,23 @@ pub data Row : Type 0 where
   reads-in : ℕ → ℕ → List ℕ → Outcome → Row
   writes : List ℕ → List ℕ → ℕ → List ℕ → Row
 
--- a pack of two rows with one correlation: its value, and its state
-abbrev pair : ℕ → ℕ → Outcome
-pair c s = done 2 2 1 deviations12 (c ∷ []) (s ∷ [])
+-- a pack of two rows with one correlation: its value, its state, and whether it can be used
+abbrev pair : ℕ → ℕ → Bool → Outcome
+pair c s u = done 2 2 1 deviations12 (c ∷ []) (s ∷ []) u
 
 abbrev pub pTable : List Row
 pTable =
-    reads (0x02 ∷ 0x91 ∷ 0x04 ∷ (D ++ (0x60 ∷ []))) (pair half 1)
-    ∷ reads (0x02 ∷ 0x91 ∷ 0x04 ∷ (D ++ (0x80 ∷ []))) (pair one 1)
-    ∷ reads (0x02 ∷ 0x91 ∷ 0x04 ∷ (D ++ (0x81 ∷ []))) (pair 0 4)
-    ∷ reads (0x02 ∷ 0x91 ∷ 0x04 ∷ (D ++ (0xC8 ∷ []))) (pair 0 2)
-    ∷ reads (0x02 ∷ 0x41 ∷ (D ++ (0x60 ∷ []))) (pair half 1)
+    reads (0x02 ∷ 0x91 ∷ 0x04 ∷ (D ++ (0x60 ∷ []))) (pair half 1 true)
+    ∷ reads (0x02 ∷ 0x91 ∷ 0x04 ∷ (D ++ (0x80 ∷ []))) (pair one 1 true)
+    ∷ reads (0x02 ∷ 0x91 ∷ 0x04 ∷ (D ++ (0x81 ∷ []))) (pair 0 4 false)
+    ∷ reads (0x02 ∷ 0x91 ∷ 0x04 ∷ (D ++ (0xC8 ∷ []))) (pair 0 2 false)
+    ∷ reads (0x02 ∷ 0x41 ∷ (D ++ (0x60 ∷ []))) (pair half 1 true)
     ∷ reads (0x02 ∷ 0x80 ∷ 0x00 ∷ []) (refused (answer 2 (wholes (0 ∷ 0 ∷ []))))
     ∷ reads (0x82 ∷ 0x01 ∷ 0x80 ∷ 0x04 ∷ []) (refused (answer 3 (wholes (257 ∷ 0 ∷ 256 ∷ []))))
     ∷ reads (0x82 ∷ 0x00 ∷ 0x80 ∷ 0x04 ∷ []) (refused (short 1024 0))
-    ∷ reads (0x00 ∷ 0x90 ∷ 0x04 ∷ []) (done 0 0 0 [] [] [])
-    ∷ reads (0x02 ∷ 0xA0 ∷ 0x04 ∷ 0x80 ∷ D) (pair 0 0)
-    ∷ reads (0x02 ∷ 0xBF ∷ 0x04 ∷ 0x00 ∷ D) (pair 0 0)
+    ∷ reads (0x00 ∷ 0x90 ∷ 0x04 ∷ []) (done 0 0 0 [] [] [] true)
+    ∷ reads (0x02 ∷ 0xA0 ∷ 0x04 ∷ 0x80 ∷ D) (pair 0 0 true)
+    ∷ reads (0x02 ∷ 0xBF ∷ 0x04 ∷ 0x00 ∷ D) (pair 0 0 true)
     ∷ writes deviations12 (0 ∷ []) 1 (0x02 ∷ 0xB1 ∷ 0x04 ∷ 0x00 ∷ D)
     ∷ []
 
@@ -103,11 +107,11 @@ shortTable =
 abbrev pub stateTable : List Row
 stateTable =
     -- infinity and a reserved pattern; above-maximum among three, the last of them absent
-    reads (0x02 ∷ 0x91 ∷ 0x04 ∷ (D ++ (0xE8 ∷ []))) (pair 0 2)
-    ∷ reads (0x02 ∷ 0x91 ∷ 0x04 ∷ (D ++ (0xE2 ∷ []))) (pair 0 3)
-    ∷ reads (0x03 ∷ 0xB1 ∷ 0x00 ∷ 0xC0 ∷ 0xE1 ∷ 0x60 ∷ []) (done 3 0 3 [] (0 ∷ half ∷ 0 ∷ []) (2 ∷ 1 ∷ 0 ∷ []))
-    -- an IEEE slot is a value, be it a NaN
-    ∷ reads (0x02 ∷ 0x84 ∷ 0x04 ∷ (D ++ (0x7F ∷ 0xC0 ∷ 0x00 ∷ 0x00 ∷ []))) (pair 0x7FF8000000000000 1)
+    reads (0x02 ∷ 0x91 ∷ 0x04 ∷ (D ++ (0xE8 ∷ []))) (pair 0 2 false)
+    ∷ reads (0x02 ∷ 0x91 ∷ 0x04 ∷ (D ++ (0xE2 ∷ []))) (pair 0 3 false)
+    ∷ reads (0x03 ∷ 0xB1 ∷ 0x00 ∷ 0xC0 ∷ 0xE1 ∷ 0x60 ∷ []) (done 3 0 3 [] (0 ∷ half ∷ 0 ∷ []) (2 ∷ 1 ∷ 0 ∷ []) false)
+    -- an IEEE slot is a value, be it a NaN, which is no correlation
+    ∷ reads (0x02 ∷ 0x84 ∷ 0x04 ∷ (D ++ (0x7F ∷ 0xC0 ∷ 0x00 ∷ 0x00 ∷ []))) (pair 0x7FF8000000000000 1 false)
     ∷ []
 
 -- packs over a range, from 0 to 50 unless said: with Slen 2 the codes 0200 and 0400 are 1 and 2, and 6400 is the top code
@@ -116,9 +120,9 @@ fifty = 0x4049000000000000
 
 abbrev pub rangeTable : List Row
 rangeTable =
-    reads-in 0 fifty (0x02 ∷ 0x91 ∷ 0x12 ∷ 0x02 ∷ 0x00 ∷ 0x04 ∷ 0x00 ∷ 0x60 ∷ []) (pair half 1)
+    reads-in 0 fifty (0x02 ∷ 0x91 ∷ 0x12 ∷ 0x02 ∷ 0x00 ∷ 0x04 ∷ 0x00 ∷ 0x60 ∷ []) (pair half 1 true)
     -- with Sf=0 all is as without a range, and without one Sf=1 is refused as before
-    ∷ reads-in 0 fifty (0x02 ∷ 0x91 ∷ 0x04 ∷ (D ++ (0x60 ∷ []))) (pair half 1)
+    ∷ reads-in 0 fifty (0x02 ∷ 0x91 ∷ 0x04 ∷ (D ++ (0x60 ∷ []))) (pair half 1 true)
     ∷ reads (0x02 ∷ 0x91 ∷ 0x12 ∷ 0x02 ∷ 0x00 ∷ 0x04 ∷ 0x00 ∷ 0x60 ∷ []) (refused (answer 2 (wholes (0 ∷ 2 ∷ []))))
     -- a code above the top code in row 1; Slen 9
     ∷ reads-in 0 fifty (0x02 ∷ 0x91 ∷ 0x12 ∷ 0x02 ∷ 0x00 ∷ 0x64 ∷ 0x01 ∷ 0x60 ∷ []) (refused (answer 8 (wholes (1 ∷ []))))
