@@ -26,6 +26,7 @@ mod short;
 mod special;
 mod states;
 mod usable;
+mod usable_at_limits;
 mod why;
 mod widen;
 mod write;
