@@ -1,4 +1,5 @@
 pub mod Cases
+pub mod Every
 pub mod InTable
 pub mod Joined
 pub mod Lent

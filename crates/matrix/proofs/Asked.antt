@@ -1,7 +1,7 @@
 -- The parts of the question, in the order in which they are asked: where the counts fit, the slots are M.
 -- Assumes nothing.
 use mathlib.Core.Path.{_≡_, sym, _∙_}
-use mathlib.Core.Bool.{Bool, true, false, _&&_, _||_, and-true, and-false}
+use mathlib.Core.Bool.{Bool, true, false, _&&_, _||_, and-eq-true-iff, and-true, and-false}
 use mathlib.Core.List.{List}
 use Prim.Native.Nat.{ℕ}
 use borrow.Author.Tests.{eqb-true, eq-eqb, ne-eqb}
@@ -10,7 +10,6 @@ use Rattle.layout.specs.declared.pack.SdccFlp.{SdccFlp}
 use Rattle.layout.specs.Size.{maxRows}
 use Rattle.layout.specs.Triangle.{slotsOf}
 use Rattle.matrix.specs.Usable.{countsFit, isDeviation, isCorrelation, isSettled, firstAll, isUsable}
-use Rattle.matrix.proofs.FirstAll.{both-hold}
 
 module _ (p : SdccFlp) (count : ℕ) (ds cs ss : List ℕ) where
   abbrev rows : Bool
@@ -21,7 +20,7 @@ module _ (p : SdccFlp) (count : ℕ) (ds cs ss : List ℕ) where
 
   module _ (fit : countsFit p ≡ true) where
     pub slots-are : p .slots ≡ slotsOf (p .«matrix_size»)
-    slots-are = eqb-true (p .slots) (slotsOf (p .«matrix_size»)) (both-hold rows (eqb (p .slots) (slotsOf (p .«matrix_size»))) fit .1)
+    slots-are = eqb-true (p .slots) (slotsOf (p .«matrix_size»)) (and-eq-true-iff rows (eqb (p .slots) (slotsOf (p .«matrix_size»))) .0 fit .1)
 
     -- as many states as slots, or no
     pub states-not : (count ≡ p .slots → ⊥) → isUsable p count ds cs ss ≡ false

@@ -7,7 +7,6 @@ pub mod Back
 pub mod Rounding
 pub mod RoundTrip
 pub mod Tight
-pub mod Compared
 pub mod Coded
 pub mod Stood
 pub mod Wrote

@@ -25,7 +25,7 @@ use Rattle.trip.specs.Back.{Back}
 use Rattle.trip.specs.RoundTrip.{Sendable, Returned}
 use Rattle.trip.specs.Compared.{deviationAgrees, slotAgrees, numbersAgree, Comparable}
 use Rattle.trip.specs.Tripped.{Lent, Roomy, tripAnswer, leftBy, Tripped}
-use Rattle.trip.proofs.Compared.{every-true}
+use Rattle.answers.proofs.Every.{every-true}
 use Rattle.trip.proofs.RoundTrip.{read-back, round-trip}
 use Rattle.trip.proofs.Stood.{done-front, long-front, over-long, over-at}
 use Rattle.trip.proofs.Wrote.{written-back, written-clen, written-range, Wrote, is-done, pack-read}

@@ -1,7 +1,7 @@
 -- What "usable" says of what the reader gives: of a slot that is present with no value, and of what demand 3 sends.
 -- Assumes nothing.
 use mathlib.Core.Path.{_≡_, refl, sym, ap, subst, _∙_}
-use mathlib.Core.Bool.{Bool, true, false, not, or-true}
+use mathlib.Core.Bool.{Bool, true, false, not, and-eq-true-iff, or-true}
 use mathlib.Core.List.{List}
 use mathlib.Core.Logic.{_↔_}
 use Prim.Native.Nat.{ℕ, _≤_, _<_}
@@ -13,7 +13,9 @@ use lib.Ieee.{Float, binary32, binary64, ofBits, le}
 use lib.Ieee.Bits.{is-true, ofBits-toBits, ofBits-fits}
 use lib.Ieee.Fits.{sub-fits}
 use lib.Ieee.Scale.{finite}
+use Rattle.answers.specs.Every.{every}
 use Rattle.answers.specs.Lent.{over, tab}
+use Rattle.answers.proofs.Every.{every-not, every-true, every-each, every-same}
 use Rattle.answers.proofs.Rules.{by-bool}
 use Rattle.numbers.specs.Conversions.{nearest}
 use Rattle.imapb.specs.Mapping.{value, valueOf, codeOf}
@@ -33,8 +35,8 @@ use Rattle.deviations.specs.declared.form.DeviationRange.the-variants.{Unknown}
 use Rattle.deviations.specs.Range.{deviationsOver}
 use Rattle.slots.specs.Slots.{sent}
 use Rattle.writer.specs.Pack.{isSparse, packBytes}
-use Rattle.matrix.specs.Usable.{zeroValue, countsFit, isDeviation, isCorrelation, isSettled, firstAll}
-use Rattle.matrix.proofs.FirstAll.{both-hold, first-each, first-all, first-not}
+use Rattle.matrix.specs.Usable.{zeroValue, atLeastZero, countsFit, isDeviation, isCorrelation, isSettled, firstAll}
+use Rattle.matrix.proofs.FirstAll.{first-every}
 use Rattle.matrix.proofs.Asked.{by-deviations, settled-not}
 use Rattle.trip.specs.RoundTrip.{rounding, Sendable}
 use Rattle.trip.specs.Usable.{usableRead, NoValue, UsableRead}
@@ -42,6 +44,12 @@ use Rattle.trip.proofs.Cells.{pack-read}
 use Rattle.trip.proofs.RoundTrip.{slot-by, read-back, slot, correlations-are, round-trip}
 use Rattle.trip.proofs.Rounding.{rounding-value}
 use Rattle.trip.proofs.Stood.{over-long, over-at}
+
+-- the entries of a list over the front, one by one
+front-every : (test : ℕ → Bool) (n : ℕ) (f : ℕ → ℕ) (front lent : List ℕ) → front ≡ tab n f
+    → firstAll test n (over front lent) ≡ every n (λ k. test (f k))
+front-every test n f front lent e =
+    first-every test n (over front lent) (over-long n f front lent e) ∙ every-same n (λ k h. ap test (over-at n f front lent e k h))
 
 -- ---- a slot that is present with no value
 module _ (bytes : List ℕ) (k : ℕ) (v : NoValue bytes k) where
@@ -59,15 +67,9 @@ module _ (bytes : List ℕ) (k : ℕ) (v : NoValue bytes k) where
       let h = headOf bytes in
       let M = slotsOf (matrixSize bytes) in
       settled-not (packOf h) M (over (deviationsOver range bytes h) ds₀) (over (correlations bytes h) cs₀) (over (states bytes h) ss₀)
-      (first-not isSettled M (over (states bytes h) ss₀) k (v .within) (rw (over-at M state (states bytes h) ss₀ refl k (v .within)) unsettled))
+      (front-every isSettled M state (states bytes h) ss₀ refl ∙ every-not M (λ k. isSettled (state k)) k (v .within) unsettled)
 
 -- ---- what demand 3 sends
--- all entries of a list over the front pass, where each does
-front-passes : (test : ℕ → Bool) (n : ℕ) (f : ℕ → ℕ) (front lent : List ℕ) → front ≡ tab n f → ((k : ℕ) → k < n → test (f k) ≡ true)
-    → firstAll test n (over front lent) ≡ true
-front-passes test n f front lent e p =
-    first-all test n (over front lent) (over-long n f front lent e) (λ k i. rw (over-at n f front lent e k i) (p k i))
-
 module _ (ds cs : List ℕ) (L : ℕ) (s : Sendable ds cs L) (ds₀ cs₀ ss₀ : List ℕ) where
   abbrev bytes : List ℕ
   bytes = packBytes ds cs L
@@ -100,40 +102,36 @@ module _ (ds cs : List ℕ) (L : ℕ) (s : Sendable ds cs L) (ds₀ cs₀ ss₀ 
       (λ _. in-range 0 (lit≤ tt))
 
   correlations-pass : firstAll isCorrelation (length cs) (over (correlations bytes h) cs₀) ≡ true
-  correlations-pass = front-passes isCorrelation (length cs) (slot ds cs L s) (correlations bytes h) cs₀ (correlations-are ds cs L s) slot-ranged
+  correlations-pass =
+      front-every isCorrelation (length cs) (slot ds cs L s) (correlations bytes h) cs₀ (correlations-are ds cs L s)
+      ∙ every-true (length cs) _ slot-ranged
 
   states-pass : firstAll isSettled (length cs) (over (states bytes h) ss₀) ≡ true
   states-pass =
-      front-passes isSettled (length cs) _ (states bytes h) ss₀ (read-back ds cs L s .states (s .ranged))
-      (λ k _. by-bool (sent (isSparse ds cs L) cs k) (λ t. rw t) (λ f. rw f))
+      front-every isSettled (length cs) _ (states bytes h) ss₀ (read-back ds cs L s .states (s .ranged))
+      ∙ every-true (length cs) _ (λ k _. by-bool (sent (isSparse ds cs L) cs k) (λ t. rw t) (λ f. rw f))
 
-  -- so the deviations decide
-  usable-is : usableRead Unknown bytes ds₀ cs₀ ss₀ ≡ firstAll isDeviation (length ds) (over (deviations bytes h) ds₀)
+  -- so the deviations decide, each by the rounding of the one sent
+  abbrev rounded : ℕ → Float
+  rounded i = nearest binary32 (ofBits binary64 (getD ds i 0))
+
+  usable-is : usableRead Unknown bytes ds₀ cs₀ ss₀ ≡ every (length ds) (λ i. atLeastZero (rounded i))
   usable-is =
       by-deviations (packOf h) (slotsOf (matrixSize bytes)) (over (deviations bytes h) ds₀) (over (correlations bytes h) cs₀) (over (states bytes h) ss₀) fits refl
       (ap (λ (m : ℕ). firstAll isCorrelation m (over (correlations bytes h) cs₀)) slots-are ∙ correlations-pass)
       (ap (λ (m : ℕ). firstAll isSettled m (over (states bytes h) ss₀)) slots-are ∙ states-pass)
       ∙ ap (λ (p : SdccFlp). firstAll isDeviation (p .deviations) (over (deviations bytes h) ds₀)) pack-is
+      ∙ front-every isDeviation (length ds) (λ i. rounding (getD ds i 0)) (deviations bytes h) ds₀ (round-trip ds cs L s .back .deviations)
+      ∙ every-same (length ds) (λ i _. ap atLeastZero (rounding-value (getD ds i 0)))
 
-  -- deviation i is the rounding of the one sent
-  abbrev rounded : ℕ → Float
-  rounded i = nearest binary32 (ofBits binary64 (getD ds i 0))
-
-  deviation-is : (i : ℕ) → i < length ds → ofBits binary64 (getD (over (deviations bytes h) ds₀) i 0) ≡ rounded i
-  deviation-is i l =
-      ap (ofBits binary64) (over-at (length ds) (λ i. rounding (getD ds i 0)) (deviations bytes h) ds₀ (round-trip ds cs L s .back .deviations) i l)
-      ∙ rounding-value (getD ds i 0)
-
-  sent-usable : (usableRead Unknown bytes ds₀ cs₀ ss₀ ≡ true)
-      ↔ ((i : ℕ) → i < length ds → T (le zeroValue (rounded i)))
+  sent-usable : (usableRead Unknown bytes ds₀ cs₀ ss₀ ≡ true) ↔ ((i : ℕ) → i < length ds → T (le zeroValue (rounded i)))
   sent-usable = (
     λ u i l.
-        let p = first-each isDeviation (length ds) (over (deviations bytes h) ds₀) (sym usable-is ∙ u) i l in
-        subst T (sym (both-hold (finite (rounded i)) (le zeroValue (rounded i)) (rw (deviation-is i l) at p) .1)) tt,
+        let p = every-each (length ds) (λ i. atLeastZero (rounded i)) (sym usable-is ∙ u) i l in
+        subst T (sym (and-eq-true-iff (finite (rounded i)) (le zeroValue (rounded i)) .0 p .1)) tt,
     λ p.
         usable-is
-        ∙ first-all isDeviation (length ds) (over (deviations bytes h) ds₀) (over-long (length ds) _ (deviations bytes h) ds₀ (round-trip ds cs L s .back .deviations))
-        (λ i l. rw (deviation-is i l, is-true (finite (rounded i)) (s .numbers i l), is-true (le zeroValue (rounded i)) (p i l))),
+        ∙ every-true (length ds) _ (λ i l. rw (is-true (finite (rounded i)) (s .numbers i l), is-true (le zeroValue (rounded i)) (p i l))),
   )
 
 pub usable-read : (ds₀ cs₀ ss₀ : List ℕ) → UsableRead ds₀ cs₀ ss₀

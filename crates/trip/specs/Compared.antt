@@ -1,18 +1,14 @@
 -- What came back, held to what was sent: an entry agrees where it is what its format keeps.
-use Prim.Native.Nat.{ℕ, zero, suc, _≤_}
-use mathlib.Core.Bool.{Bool, true, _&&_}
+use Prim.Native.Nat.{ℕ, _≤_}
+use mathlib.Core.Bool.{Bool, _&&_}
 use mathlib.Core.List.{List}
 use lib.Dec.{eqb}
 use lib.ListN.{length, getD}
+use Rattle.answers.specs.Every.{every}
 use Rattle.answers.specs.Table.{pick}
 use Rattle.plan.specs.Rules.{InRange, Supported}
 use Rattle.plan.specs.Zero.{isZero}
 use Rattle.trip.specs.Values.{deviationKept, correlationKept}
-
--- whether the test holds of each of 0 to n-1
-abbrev pub every : ℕ → (ℕ → Bool) → Bool
-every zero b = true
-every (suc n) b = every n b && b n
 
 -- a deviation d that came back as r
 abbrev pub deviationAgrees : ℕ → ℕ → Bool

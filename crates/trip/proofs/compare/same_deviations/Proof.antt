@@ -10,7 +10,7 @@ use lib.ListN.{length, getD}
 use Rattle.numbers.specs.Conversions.{converted}
 use Rattle.trip.specs.Values.{deviationKept}
 use Rattle.trip.specs.Compared.{deviationAgrees}
-use Rattle.trip.proofs.Compared.{Tested, tested-none, tested-more, tested-not, tested-all}
+use Rattle.answers.proofs.Every.{Tested, tested-none, tested-more, tested-not, tested-all}
 use Rattle.trip.proofs.compare.same_deviations.Statement.{statement}
 use Rattle.trip.proofs.compare.same_deviations.Tie as tie
 

@@ -6,7 +6,7 @@ use native.Mathlib.Omega.{arith}
 use borrow.Author.Tests.{not-true, not-false}
 use lib.ListN.{length, getD}
 use Rattle.trip.specs.Compared.{slotAgrees}
-use Rattle.trip.proofs.Compared.{Tested, tested-none, tested-more, tested-not, tested-all}
+use Rattle.answers.proofs.Every.{Tested, tested-none, tested-more, tested-not, tested-all}
 use Rattle.trip.proofs.compare.same_slots.Statement.{statement}
 use Rattle.trip.proofs.compare.same_slots.Tie as tie
 
