@@ -14,6 +14,7 @@ use Rattle.answers.specs.declared.Refusal.the-variants.{
   NoSuchCell,
   NoDeviation,
   InvalidImapbParams,
+  MalformedItem,
 }
 use Rattle.answers.specs.declared.Check.{Check}
 use Rattle.answers.specs.declared.Check.the-variants as check
@@ -32,6 +33,7 @@ listed (TooManyRows n) = answer 6 (wholes (n ∷ []))
 listed (NoSuchCell i j) = answer 7 (wholes (i ∷ j ∷ []))
 listed (NoDeviation row) = answer 8 (wholes (row ∷ []))
 listed InvalidImapbParams = answer 9 []
+listed (MalformedItem offset) = answer 10 (wholes (offset ∷ []))
 
 abbrev pub written : Written → Answer
 written (Done n) = answer 0 (wholes (n ∷ []))

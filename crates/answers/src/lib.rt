@@ -1,7 +1,7 @@
 //! Document 01's table of answers: the refusals, and the answer of whatever writes into lent memory.
 pub mod row;
 
-// Rows 1 to 9, in the table's order. A binary64 is carried as its bits, so that a refused NaN comes back bit for bit.
+// Rows 1 to 10, in the table's order. A binary64 is carried as its bits, so that a refused NaN comes back bit for bit.
 pub enum Refusal {
     // 1, in bytes
     TruncatedField { needed: usize, got: usize },
@@ -23,6 +23,8 @@ pub enum Refusal {
     NoDeviation { row: usize },
     // 9
     InvalidImapbParams,
+    // 10: the item of a set that starts there can't be read
+    MalformedItem { offset: usize },
 }
 
 // What a rule, or a run of rules, answers.

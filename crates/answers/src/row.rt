@@ -35,6 +35,7 @@ pub fn row_of(refusal: Refusal) -> Row
         Refusal::NoSuchCell { i, j } => whole_row(7, 2, [i, j, 0]),
         Refusal::NoDeviation { row } => whole_row(8, 1, [row as u64, 0, 0]),
         Refusal::InvalidImapbParams => whole_row(9, 0, [0, 0, 0]),
+        Refusal::MalformedItem { offset } => whole_row(10, 1, [offset as u64, 0, 0]),
     }
 }
 
