@@ -7,7 +7,7 @@ use Prim.Native.Nat.{ℕ, zero, suc, _+_, _-_, _/_, _%_, _^_, _≤_, _<_}
 use native.Mathlib.Nat.{le-antisymm, pow-le-pow-right, pow-suc, mod-eq-of-lt, zero-add}
 use native.Mathlib.Numerals.{add-one}
 use native.Mathlib.Omega.{arith, by-contra}
-use lib.Dec.{leb, ltb}
+use lib.Dec.{leb, ltb, eqb}
 use lib.ListN.{length, drop, set, getD, length-append}
 use lib.Seq.{drop-cons, append-snoc, take-at}
 use borrow.Author.Needs.{needs}
@@ -16,7 +16,7 @@ use Rattle.answers.specs.Lent.{over}
 use Rattle.answers.proofs.Rules.{picked}
 use Rattle.numbers.specs.declared.ber_oid.BerOid.the-variants.{Read, Unreadable}
 use Rattle.numbers.specs.Digits.{spelt, digits}
-use Rattle.numbers.specs.BerOid.{continued, oidValue, oidRead, oidLength, oidBytes}
+use Rattle.numbers.specs.BerOid.{continued, oidValue, oidRead, oidReadStrict, oidLength, oidBytes}
 use Rattle.numbers.proofs.Digits.{drop-set, length-digits, spelt-append, spelt-digits}
 
 -- after i bytes with the top bit set, one more, or the last
@@ -48,6 +48,9 @@ unfolding oidRead
 none-is bytes never =
     picked (λ r. r ≡ Unreadable) _ _ _ (λ t. let p = passed bytes (suc (continued bytes)) t in absurd (never (p .0) (p .1) (p .2))) (λ _. refl)
 
+not-read : {v k : ℕ} → Read v k ≡ Unreadable → ⊥
+not-read e = let z : _≡_ {A = ℕ} 0 1 = cc in omega arith
+
 -- what a number that was read tells
 pub read-tells : (bytes : List ℕ) {v k : ℕ} → Read v k ≡ oidRead bytes
     → (k ≡ suc (continued bytes)) × (v ≡ oidValue k bytes) × (k ≤ length bytes)
@@ -57,7 +60,18 @@ read-tells bytes {v} {k} =
     (λ t e.
     let h : k ≡ suc (continued bytes) = cc in
     (h, (cc), rw h (passed bytes (suc (continued bytes)) t .1)))
-    (λ _ e. let z : _≡_ {A = ℕ} 0 1 = cc in absurd (omega arith))
+    (λ _ e. absurd (not-read e))
+
+-- what is read strictly is read
+pub strict-tells : (bytes : List ℕ) {v k : ℕ} → Read v k ≡ oidReadStrict bytes → Read v k ≡ oidRead bytes
+unfolding oidReadStrict
+strict-tells bytes {v} {k} =
+    picked (λ r. Read v k ≡ r → Read v k ≡ oidRead bytes) (eqb (getD bytes 0 0) 128) Unreadable (oidRead bytes)
+    (λ _ e. absurd (not-read e)) (λ _ e. e)
+
+-- it takes a byte at least, and no more than there are
+pub oid-within : (bytes : List ℕ) {v k : ℕ} → Read v k ≡ oidReadStrict bytes → (1 ≤ k) × (k ≤ length bytes)
+oid-within bytes e = let p = read-tells bytes (strict-tells bytes e) in (omega (arith, p .0), p .2)
 
 continued-digits : (j n : ℕ) (l : List ℕ) → continued (digits 128 1 j n ++ l) ≡ j + continued l
 continued-digits zero n l = sym (zero-add (continued l))
@@ -147,3 +161,16 @@ no-byte = refl
 largest : oidRead (0x8f ∷ 0xff ∷ 0xff ∷ 0xff ∷ 0x7f ∷ []) ≡ Read 4294967295 5
 unfolding oidRead
 largest = refl
+
+-- ---- read strictly
+strict-first : oidReadStrict (0x80 ∷ 0x01 ∷ []) ≡ Unreadable
+unfolding oidReadStrict
+strict-first = refl
+
+first-read : oidRead (0x80 ∷ 0x01 ∷ []) ≡ Read 1 2
+unfolding oidRead
+first-read = refl
+
+strict-two : oidReadStrict (0x81 ∷ 0x00 ∷ []) ≡ Read 128 2
+unfolding oidReadStrict oidRead
+strict-two = refl

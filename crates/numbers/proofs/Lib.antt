@@ -2,6 +2,7 @@ pub mod Bits
 pub mod Digits
 pub mod Bytes
 pub mod BerOid
+pub mod Lengths
 pub mod Closest
 pub mod Rounding
 pub mod Patterns

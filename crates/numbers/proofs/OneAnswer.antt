@@ -9,8 +9,11 @@ use Rattle.numbers.specs.BerOid.{oidBytes}
 use Rattle.numbers.proofs.words.read_be.Reads as read-be
 use Rattle.numbers.proofs.words.write_be.Reads as write-be
 use Rattle.numbers.proofs.ber_oid.read_ber_oid.Reads as read-ber-oid
+use Rattle.numbers.proofs.ber_oid.read_ber_oid_strict.Reads as read-ber-oid-strict
 use Rattle.numbers.proofs.ber_oid.ber_oid_len.Reads as ber-oid-len
 use Rattle.numbers.proofs.ber_oid.write_ber_oid.Reads as write-ber-oid
+use Rattle.numbers.proofs.ber.read_ber.Reads as read-ber
+use Rattle.numbers.proofs.ber.read_ber_strict.Reads as read-ber-strict
 use Rattle.numbers.proofs.conversions.nearest_binary64.Reads as nearest-binary64
 use Rattle.numbers.proofs.conversions.binary64_to_binary32.Reads as binary64-to-binary32
 use Rattle.numbers.proofs.conversions.binary32_to_binary64.Reads as binary32-to-binary64
@@ -24,6 +27,15 @@ ber-oid-len-one κs a r r′ s s′ p q = p ∙ sym q
 
 pub read-ber-oid-one : OneResult read-ber-oid.Learnt
 read-ber-oid-one κs a r r′ s s′ p q = p ∙ sym q
+
+pub read-ber-oid-strict-one : OneResult read-ber-oid-strict.Learnt
+read-ber-oid-strict-one κs a r r′ s s′ p q = p ∙ sym q
+
+pub read-ber-one : OneResult read-ber.Learnt
+read-ber-one κs a r r′ s s′ p q = p ∙ sym q
+
+pub read-ber-strict-one : OneResult read-ber-strict.Learnt
+read-ber-strict-one κs a r r′ s s′ p q = p ∙ sym q
 
 pub write-be-one : OneAnswer write-be.Learnt (λ κs s. now (s .1 .0))
 write-be-one κs a r r′ s s′ p q = (refl, p ∙ sym q)

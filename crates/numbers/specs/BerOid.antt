@@ -2,8 +2,8 @@
 use Prim.Native.Nat.{ℕ, suc, _-_, _/_, _%_, _^_}
 use mathlib.Core.Bool.{_&&_}
 use mathlib.Core.List.{List, [], _∷_, _++_}
-use lib.Dec.{leb, ltb}
-use lib.ListN.{length, take}
+use lib.Dec.{leb, ltb, eqb}
+use lib.ListN.{length, getD, take}
 use Rattle.answers.specs.Table.{Answer, answer, wholes, pick}
 use Rattle.numbers.specs.declared.ber_oid.BerOid.{BerOid}
 use Rattle.numbers.specs.declared.ber_oid.BerOid.the-variants.{Read, Unreadable}
@@ -24,6 +24,10 @@ oidRead bytes =
     let k = suc (continued bytes) in
     pick (leb k 6 && leb k (length bytes) && ltb (oidValue k bytes) (2 ^ 32))
     (Read (oidValue k bytes) k) Unreadable
+
+-- read strictly: no leading 80
+unfoldable pub oidReadStrict : List ℕ → BerOid
+oidReadStrict bytes = pick (eqb (getD bytes 0 0) 128) Unreadable (oidRead bytes)
 
 -- the fewest bytes for a value below 2^32
 abbrev pub oidLength : ℕ → ℕ

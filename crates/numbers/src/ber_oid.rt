@@ -5,7 +5,7 @@ ghost use mathlib.Core.Path.{_≡_};
 ghost use lib.ListN.{length};
 ghost use Rattle.answers.specs.Listed.{written};
 ghost use Rattle.answers.specs.Lent.{leaves};
-ghost use Rattle.numbers.specs.BerOid.{oidLength, oidBytes, oidRead, oidWritten};
+ghost use Rattle.numbers.specs.BerOid.{oidLength, oidBytes, oidRead, oidReadStrict, oidWritten};
 
 // A number and how many bytes it took, or none.
 pub enum BerOid {
@@ -38,6 +38,19 @@ pub fn read_ber_oid(bytes: &[u8]) -> BerOid
         }
     }
     BerOid::Unreadable
+}
+
+// The number at the front of the bytes, where they do not start with a 0 that nothing needs.
+pub fn read_ber_oid_strict(bytes: &[u8]) -> BerOid
+    ensures { λ r. ⌜ r ≡ oidReadStrict (now (bytes .entry)) ⌝ }
+{
+    if bytes.len() == 0 {
+        return BerOid::Unreadable;
+    }
+    if bytes[0] == 0x80 {
+        return BerOid::Unreadable;
+    }
+    read_ber_oid(bytes)
 }
 
 // How many bytes the value takes: the fewest.

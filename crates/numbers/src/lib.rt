@@ -1,4 +1,5 @@
-//! BER-OID numbers, big-endian words, and conversions between binary32, binary64 and whole numbers.
+//! BER-OID numbers, BER lengths, big-endian words, and conversions between binary32, binary64 and whole numbers.
+pub mod ber;
 pub mod ber_oid;
 pub mod conversions;
 pub mod words;
