@@ -3,7 +3,7 @@
 use mathlib.Core.Path.{_≡_, sym, _∙_}
 use native.Mathlib.Omega.{arith}
 use borrow.Author.Needs.{needs}
-use borrow.Author.Tests.{lt-ltb, le-ltb, ne-eqb}
+use borrow.Author.Tests.{lt-ltb, le-ltb, eq-eqb, ne-eqb}
 use lib.ListN.{getD}
 use Rattle.numbers.specs.declared.ber.BerLength.the-variants.{Read}
 use Rattle.numbers.specs.Ber.{berRead, berReadStrict}
@@ -47,19 +47,15 @@ returns-4 : tie.Need-returns-4
 unfolding berReadStrict
 returns-4 c =
     let w = c .before .before .before .before .before in
-    rw (read w, lt-ltb 1 (w .value .given .0 .1 .0) (omega arith), le-ltb (w .value .given .0 .0) 128 (omega arith), c .if3 .taken)
+    let l = w .before .before .before .before .args .bytes .now in
+    rw (read w, lt-ltb 1 (w .value .given .0 .1 .0) (omega arith), le-ltb (w .value .given .0 .0) 128 (omega arith), eq-eqb (getD l 1 0) 0 (omega arith))
 
 returns-5 : tie.Need-returns-5
 unfolding berReadStrict
 returns-5 c =
     let w = c .before .before .before .before .before in
     let l = w .before .before .before .before .args .bytes .now in
-    rw (
-      read w,
-      lt-ltb 1 (w .value .given .0 .1 .0) (omega arith),
-      le-ltb (w .value .given .0 .0) 128 (omega arith),
-      ne-eqb (getD l 1 0) 0 (c .if3 .left),
-    )
+    rw (read w, lt-ltb 1 (w .value .given .0 .1 .0) (omega arith), le-ltb (w .value .given .0 .0) 128 (omega arith), ne-eqb (getD l 1 0) 0 (λ e. omega arith))
 
 pub read-ber-strict-spec : {M : Type 1} → statement M
 read-ber-strict-spec =
