@@ -119,7 +119,7 @@ fn compare(seed: u64, count: usize, program: &[String]) -> io::Result<ExitCode> 
     Ok(ExitCode::from(u8::from(differ > 0)))
 }
 
-// Every string of three bytes, peeked at and read, those of one first byte at a time.
+// Every string of three bytes, those of one first byte at a time.
 fn three_bytes(program: &[String]) -> io::Result<ExitCode> {
     let mut compared = 0;
     let mut differ = 0;

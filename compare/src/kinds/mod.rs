@@ -3,6 +3,7 @@ use crate::klv::imapb::ImapbParams;
 use crate::random::Random;
 pub use in_range::has_other_power;
 
+mod ber;
 mod cell;
 mod in_range;
 mod lent;
@@ -22,6 +23,9 @@ mod read;
 mod read_in;
 pub mod reasons;
 mod rules;
+mod set;
+mod sets;
+mod sets_at_limits;
 mod short;
 mod special;
 mod states;
@@ -48,8 +52,11 @@ pub struct Kind {
     pub share: usize,
 }
 
-pub const KINDS: [Kind; 15] = [
+pub const KINDS: [Kind; 19] = [
     oid::KIND,
+    oid::STRICT,
+    ber::KIND,
+    ber::STRICT,
     widen::KIND,
     narrow::KIND,
     mapped::KIND,
@@ -64,14 +71,28 @@ pub const KINDS: [Kind; 15] = [
     usable::KIND,
     print::KIND,
     why::KIND,
+    set::KIND,
 ];
 
-// Every string of three bytes that starts with this one, peeked at and read.
+// A request for each byte string.
+fn cases(strings: &[Vec<u8>], case: fn(&[u8]) -> Case) -> Vec<Case> {
+    strings.iter().map(|bytes| case(bytes)).collect()
+}
+
+// Every string of three bytes that starts with this one, peeked at and read, as a number and a length too.
 pub fn of_three(first: u8) -> Vec<Case> {
     let rest = (0..=u16::MAX).map(u16::to_be_bytes);
     let strings = rest.map(|[second, third]| [first, second, third]);
     strings
-        .flat_map(|bytes| [peek::case(&bytes), read::case(read::SMALL, &bytes)])
+        .flat_map(|bytes| {
+            [
+                peek::case(&bytes),
+                read::case(read::SMALL, &bytes),
+                oid::strict_case(&bytes),
+                ber::case(&bytes),
+                ber::strict_case(&bytes),
+            ]
+        })
         .collect()
 }
 

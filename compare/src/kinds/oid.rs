@@ -1,12 +1,20 @@
-//! `oid HEX`: BER-OID numbers, by the Rust's `read_ber_oid`.
-use super::{hex, Case, Kind};
-use crate::klv::length::read_ber_oid;
+//! `oid HEX` and `strict-oid HEX`: BER-OID numbers, by the Rust's `read_ber_oid` and `read_ber_oid_strict`.
+use super::packs_at_limits::up_to_two;
+use super::{cases, hex, Case, Kind};
+use crate::klv::length::{read_ber_oid, read_ber_oid_strict};
 use crate::random::Random;
 
 pub const KIND: Kind = Kind {
     name: "oid",
-    limits,
-    random,
+    limits: || cases(&limits(), case),
+    random: |random| case(&string(random)),
+    share: 1,
+};
+
+pub const STRICT: Kind = Kind {
+    name: "strict-oid",
+    limits: || cases(&[up_to_two(), limits()].concat(), strict_case),
+    random: |random| strict_case(&string(random)),
     share: 1,
 };
 
@@ -28,6 +36,17 @@ fn case(bytes: &[u8]) -> Case {
     }
 }
 
+pub(super) fn strict_case(bytes: &[u8]) -> Case {
+    let answer = match read_ber_oid_strict(bytes) {
+        Ok((value, left)) => format!("oid {value} {}", left.len()),
+        Err(_) => "nothing".to_string(),
+    };
+    Case {
+        request: format!("strict-oid {}", hex(bytes)),
+        answer,
+    }
+}
+
 // The value in the fewest bytes, after some 80s.
 pub fn spelled(value: u64, padding: u64) -> Vec<u8> {
     let mut bytes = vec![(value % 128) as u8];
@@ -42,9 +61,9 @@ pub fn spelled(value: u64, padding: u64) -> Vec<u8> {
     bytes
 }
 
-fn limits() -> Vec<Case> {
+fn limits() -> Vec<Vec<u8>> {
     // none, and as many as a request has to be taken with
-    let mut cases = vec![case(&[]), case(&[0x7F; 300_000])];
+    let mut strings = vec![vec![], vec![0x7F; 300_000]];
     for digits in [7, 14, 21, 28, 32, 35] {
         for value in [
             (1 << digits) - 2,
@@ -53,25 +72,24 @@ fn limits() -> Vec<Case> {
             (1 << digits) + 1,
         ] {
             for padding in 0..8 {
-                let mut bytes = spelled(value, padding);
-                cases.push(case(&bytes));
-                cases.push(case(&bytes[..bytes.len() - 1]));
-                bytes.extend([0x80, 0x00]);
-                cases.push(case(&bytes));
+                let bytes = spelled(value, padding);
+                strings.push(bytes[..bytes.len() - 1].to_vec());
+                strings.push([bytes.as_slice(), &[0x80, 0x00]].concat());
+                strings.push(bytes);
             }
         }
     }
     for first in EDGES {
-        cases.push(case(&[first]));
+        strings.push(vec![first]);
         for second in EDGES {
-            cases.push(case(&[first, second]));
-            cases.extend(EDGES.map(|third| case(&[first, second, third])));
+            strings.push(vec![first, second]);
+            strings.extend(EDGES.map(|third| vec![first, second, third]));
         }
     }
-    cases
+    strings
 }
 
-fn random(random: &mut Random) -> Case {
+fn string(random: &mut Random) -> Vec<u8> {
     let mut bytes = match random.below(4) {
         0 => {
             let near = 1 << random.pick(&[7, 14, 21, 28, 32, 33, 35]);
@@ -91,5 +109,5 @@ fn random(random: &mut Random) -> Case {
     for _ in 0..random.below(4) {
         bytes.push(random.byte());
     }
-    case(&bytes)
+    bytes
 }

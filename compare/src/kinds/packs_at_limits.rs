@@ -7,18 +7,24 @@ use crate::random::Random;
 // First bytes that say something: a size, that more follows, or the most of either.
 const FIRST: [u8; 10] = [0x00, 0x01, 0x02, 0x03, 0x04, 0x80, 0x81, 0x82, 0x90, 0xFF];
 
-// All strings of up to two bytes, and those of three that start with one of the bytes above.
-pub fn every_short() -> Vec<Vec<u8>> {
+// All strings of two bytes.
+fn pairs() -> impl Iterator<Item = [u8; 2]> {
+    (0..=u16::MAX).map(u16::to_be_bytes)
+}
+
+// All strings of up to two bytes.
+pub fn up_to_two() -> Vec<Vec<u8>> {
     let mut strings = vec![vec![]];
     strings.extend((0..=u8::MAX).map(|first| vec![first]));
-    let pairs = (0..=u16::MAX).map(u16::to_be_bytes);
-    strings.extend(pairs.clone().map(Vec::from));
+    strings.extend(pairs().map(Vec::from));
+    strings
+}
+
+// Those, and the strings of three bytes that start with one of the bytes above.
+pub fn every_short() -> Vec<Vec<u8>> {
+    let mut strings = up_to_two();
     for first in FIRST {
-        strings.extend(
-            pairs
-                .clone()
-                .map(|[second, third]| vec![first, second, third]),
-        );
+        strings.extend(pairs().map(|[second, third]| vec![first, second, third]));
     }
     strings
 }

@@ -2,7 +2,7 @@
 use super::packs_at_limits::{documented, every_control, every_short, every_size};
 use super::packs_at_limits::{longest, of_long_codes, padded};
 use super::packs_at_random::made;
-use super::{hex, Case, Kind};
+use super::{cases, hex, Case, Kind};
 use crate::klv::st1010::peek_matrix_size;
 use crate::random::Random;
 
@@ -31,7 +31,7 @@ fn limits() -> Vec<Case> {
         strings.extend(more);
     }
     strings.push(longest());
-    strings.iter().map(|bytes| case(bytes)).collect()
+    cases(&strings, case)
 }
 
 fn random(random: &mut Random) -> Case {

@@ -2,7 +2,7 @@
 use super::packs::{pack, Control};
 use super::packs_at_limits::{documented, every_control, every_size, longest, of_sizes, padded};
 use super::packs_at_random::made;
-use super::{hex, read, write_at_limits, Case, Kind};
+use super::{cases, hex, read, write_at_limits, Case, Kind};
 use crate::klv::st1010::peek_matrix_size;
 use crate::random::Random;
 
@@ -82,7 +82,7 @@ fn limits() -> Vec<Case> {
     strings.retain(|bytes| bytes.len() <= 2 * BYTES);
     strings.push(longest());
     strings.extend(every_control().into_iter().step_by(5));
-    strings.iter().map(|bytes| case(bytes)).collect()
+    cases(&strings, case)
 }
 
 fn random(random: &mut Random) -> Case {

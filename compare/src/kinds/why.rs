@@ -1,11 +1,11 @@
 //! `why HEX`: the rule that refuses a pack, or where its elements and slots stand. Whether it is refused, with which
 //! numbers, and which slots are present is the Rust's `decode_sdcc_flp`; `states` has what each slot was.
-use super::packs_at_limits::{documented, every_control, every_cut, every_short, every_size};
-use super::packs_at_limits::{longest, of_long_codes, padded};
+use super::packs_at_limits::{documented, every_control, every_cut, every_size};
+use super::packs_at_limits::{longest, of_long_codes, padded, up_to_two};
 use super::packs_at_random::made;
 use super::rules::ends;
 use super::states::{slots_of, Slot};
-use super::{hex, read, Case, Kind};
+use super::{cases, hex, read, Case, Kind};
 use crate::error::KlvFieldError;
 use crate::klv::st1010::{decode_sdcc_flp, SdccFlp};
 use crate::random::Random;
@@ -70,9 +70,8 @@ fn case(bytes: &[u8]) -> Case {
 }
 
 fn limits() -> Vec<Case> {
-    let mut strings = every_short();
     // those of three bytes are `read`'s
-    strings.retain(|bytes| bytes.len() < 3);
+    let mut strings = up_to_two();
     for more in [documented(), padded(), every_control(), every_cut()] {
         strings.extend(more);
     }
@@ -80,7 +79,7 @@ fn limits() -> Vec<Case> {
     // of the long ones, a few will do
     strings.extend(of_long_codes().into_iter().step_by(5));
     strings.push(longest());
-    strings.iter().map(|bytes| case(bytes)).collect()
+    cases(&strings, case)
 }
 
 fn random(random: &mut Random) -> Case {
