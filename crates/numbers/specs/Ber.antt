@@ -1,5 +1,6 @@
 -- BER lengths: a byte below 128 is the length; otherwise it says, above 128, how many bytes of length follow, high first.
-use Prim.Native.Nat.{ℕ, suc, _%_}
+use Prim.Native.Nat.{ℕ, suc, _%_, _≤_}
+use mathlib.Core.Path.{_≡_}
 use mathlib.Core.Bool.{_&&_, _||_}
 use mathlib.Core.List.{List, [], _∷_}
 use lib.Dec.{leb, ltb, eqb}
@@ -24,3 +25,7 @@ strictly bytes Unreadable = Unreadable
 
 unfoldable pub berReadStrict : List ℕ → BerLength
 berReadStrict bytes = strictly bytes (berRead bytes)
+
+-- what is read strictly from these bytes takes no more of them than any others that are read as the same length
+abbrev pub Fewest : List ℕ → Type 0
+Fewest bytes = (v k j : ℕ) (other : List ℕ) → Read v k ≡ berReadStrict bytes → Read v j ≡ berRead other → k ≤ j

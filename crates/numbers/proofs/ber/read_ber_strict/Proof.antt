@@ -7,7 +7,7 @@ use borrow.Author.Tests.{lt-ltb, le-ltb, eq-eqb, ne-eqb}
 use lib.ListN.{getD}
 use Rattle.numbers.specs.declared.ber.BerLength.the-variants.{Read}
 use Rattle.numbers.specs.Ber.{berRead, berReadStrict}
-use Rattle.numbers.proofs.Lengths.{read-within}
+use Rattle.numbers.proofs.Lengths.{ber-tells}
 use Rattle.numbers.proofs.ber.read_ber_strict.Statement.{statement}
 use Rattle.numbers.proofs.ber.read_ber_strict.Tie as tie
 
@@ -41,7 +41,7 @@ returns-3 c =
 shared-slice-read-if3 : tie.Need-shared-slice-read-if3
 shared-slice-read-if3 c =
     let w = c .before .before .before .before in
-    omega (arith, read-within (w .before .before .before .before .args .bytes .now) (sym (read w)) .1)
+    omega (arith, ber-tells (w .before .before .before .before .args .bytes .now) (sym (read w)) .there)
 
 returns-4 : tie.Need-returns-4
 unfolding berReadStrict
