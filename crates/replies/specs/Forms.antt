@@ -33,6 +33,10 @@ forms =
     ∷ ascii "mapped-in X Y N H"
     ∷ ascii "read-in X Y D E F H"
     ∷ ascii "why H"
+    ∷ ascii "strict-oid H"
+    ∷ ascii "ber H"
+    ∷ ascii "strict-ber H"
+    ∷ ascii "set G H"
     ∷ ascii "bad request"
     ∷ ascii "refused A"
     ∷ ascii "refused A B"
@@ -56,6 +60,12 @@ forms =
     ∷ ascii ";s A X"
     ∷ ascii ";c A B C Z"
     ∷ ascii " touched"
+    ∷ ascii "length A B"
+    ∷ ascii "set A B"
+    ∷ ascii ";pack A B C D"
+    ∷ ascii ";tags"
+    ∷ ascii " A"
+    ∷ ascii " -"
     ∷ []
 
 abbrev pub formOf : ℕ → List ℕ

@@ -1,4 +1,5 @@
 pub mod Forms
+pub mod Places
 pub mod Reply
 pub mod Special
 pub mod Replies

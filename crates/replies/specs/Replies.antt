@@ -24,12 +24,14 @@ use Rattle.reader.specs.declared.read.ReadAnswer.the-variants as read
 use Rattle.matrix.specs.declared.lookup.Cell.{Cell}
 use Rattle.matrix.specs.declared.lookup.Cell.the-variants as cell
 use Rattle.replies.specs.declared.reply.Reply.{Reply}
+use Rattle.replies.specs.Places.{refusedAt, refusedBitsAt, bitsAt, bits32At, oidAt, sizeAt, nothingAt}
+use Rattle.replies.specs.Places.{valueAt, outsideAt, reservedAt, numberAt, noAt, yesAt, countsAt}
 use Rattle.replies.specs.Reply.{reply, oneReply, wordsReply}
 use Rattle.replies.specs.Special.{specialReply}
 
 -- ---- a refusal: its number, and its values in decimal, or in hex where they are the bits of binary64 numbers
 abbrev pub refusedForm : ℕ → Bool → ℕ
-refusedForm count floats = pick floats 29 (25 + count)
+refusedForm count floats = pick floats refusedBitsAt (refusedAt + count)
 
 abbrev pub rowReply : Row → Reply
 rowReply r =
@@ -41,22 +43,22 @@ refusedReply r = rowReply (rowOf r)
 
 -- ---- numbers
 abbrev pub widenReply : ℕ → Reply
-widenReply bits = oneReply 31 (converted binary32 binary64 (bits % 2 ^ 32))
+widenReply bits = oneReply bitsAt (converted binary32 binary64 (bits % 2 ^ 32))
 
 abbrev pub narrowReply : ℕ → Reply
-narrowReply bits = oneReply 32 (converted binary64 binary32 bits)
+narrowReply bits = oneReply bits32At (converted binary64 binary32 bits)
 
 -- the value, and how many bytes are left; of one that is unreadable, refusal 1 with 0 and 0
 abbrev pub oidReply : BerOid → ℕ → Reply
-oidReply (Read value taken) count = reply 33 value (count - taken) 0 0
+oidReply (Read value taken) count = reply oidAt value (count - taken) 0 0
 oidReply Unreadable count = refusedReply (TruncatedField 0 0)
 
 -- ---- a mapped value
 abbrev pub decodedReply : DecodedImapb → Reply
-decodedReply (Value x) = oneReply 36 (toBits binary64 x)
+decodedReply (Value x) = oneReply valueAt (toBits binary64 x)
 decodedReply (Special s) = specialReply s
-decodedReply (ReservedSpecial raw) = oneReply 38 raw
-decodedReply (OutOfRange x) = oneReply 37 (toBits binary64 x)
+decodedReply (ReservedSpecial raw) = oneReply reservedAt raw
+decodedReply (OutOfRange x) = oneReply outsideAt (toBits binary64 x)
 
 abbrev pub mappedReply : ImapbRead → Reply
 mappedReply (mapped.Done d) = decodedReply d
@@ -64,20 +66,20 @@ mappedReply (mapped.Refused r) = refusedReply r
 
 -- ---- a pack
 abbrev pub peekReply : Peek → Reply
-peekReply (Size n) = oneReply 34 n
-peekReply Nothing = wordsReply 35
+peekReply (Size n) = oneReply sizeAt n
+peekReply Nothing = wordsReply nothingAt
 
 -- N, the deviation count and M
 abbrev pub readReply : ReadAnswer → Reply
-readReply (read.Done p) = reply 43 (p .«matrix_size») (p .deviations) (p .slots) 0
+readReply (read.Done p) = reply countsAt (p .«matrix_size») (p .deviations) (p .slots) 0
 readReply (read.Refused r) = refusedReply r
 
 abbrev pub cellReply : Cell → Reply
-cellReply (cell.Number bits) = oneReply 39 bits
+cellReply (cell.Number bits) = oneReply numberAt bits
 cellReply (cell.Refused r) = refusedReply r
 
 abbrev pub usableReply : Bool → Reply
-usableReply usable = wordsReply (pick usable 41 40)
+usableReply usable = wordsReply (pick usable yesAt noAt)
 
 -- ---- what writes: the form of what is done, with the count of bytes
 abbrev pub writtenReply : ℕ → Written → Reply

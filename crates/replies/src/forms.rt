@@ -4,7 +4,7 @@ ghost use Rattle.replies.specs.Forms.{letterOf, isField};
 
 // Words stand for themselves, a capital for a field of the request or a value of the reply, and a dot for the end.
 // A reply ends at a comma, which a request has none of: `special` is asked for as it is replied.
-const FORMS: [u8; 1128] = *b"\
+const FORMS: [u8; 1368] = *b"\
     widen W.................\
     narrow X................\
     oid H...................\
@@ -29,6 +29,10 @@ const FORMS: [u8; 1128] = *b"\
     mapped-in X Y N H.......\
     read-in X Y D E F H.....\
     why H...................\
+    strict-oid H............\
+    ber H...................\
+    strict-ber H............\
+    set G H.................\
     bad request.............\
     refused A...............\
     refused A B.............\
@@ -51,14 +55,20 @@ const FORMS: [u8; 1128] = *b"\
     n A deviations B slots C\
     ;s A X..................\
     ;c A B C Z..............\
-    \x20touched................";
+    \x20touched................\
+    length A B..............\
+    set A B.................\
+    ;pack A B C D...........\
+    ;tags...................\
+    \x20A......................\
+    \x20-......................";
 
 pub const WIDTH: usize = 24;
 
-const COUNT: usize = 47;
+const COUNT: usize = 57;
 
-// The requests come first: 0 to 6 and 21 are replied to by a form, 7 is print, 8 and 22 read, 9 to 20 write, from 12 on
-// the special kinds, and 23 is why.
+// The requests come first: 0 to 6, 21 and 24 to 26 are replied to by a form, 7 is print, 8 and 22 read, 9 to 20 write,
+// from 12 on the special kinds, 23 is why, and 27 is set.
 pub const CELL: usize = 5;
 
 pub const WRITE: usize = 11;
@@ -69,47 +79,67 @@ pub const READ_IN: usize = 22;
 
 pub const WHY: usize = 23;
 
+pub const STRICT_OID: usize = 24;
+
+pub const BER: usize = 25;
+
+pub const STRICT_BER: usize = 26;
+
+pub const SET: usize = 27;
+
 // What is none of them is replied to by this form, and the other replies follow.
-pub const BAD_REQUEST: usize = 24;
+pub const BAD_REQUEST: usize = 28;
 
 // A refusal's number alone; the three forms behind it have a value more each, and the last has binary64s.
-pub const REFUSED: usize = 25;
+pub const REFUSED: usize = BAD_REQUEST + 1;
 
-pub const REFUSED_BITS: usize = 29;
+pub const REFUSED_BITS: usize = BAD_REQUEST + 5;
 
-pub const EMPTY: usize = 30;
+pub const EMPTY: usize = BAD_REQUEST + 6;
 
-pub const BITS: usize = 31;
+pub const BITS: usize = BAD_REQUEST + 7;
 
-pub const BITS32: usize = 32;
+pub const BITS32: usize = BAD_REQUEST + 8;
 
-pub const OID: usize = 33;
+pub const OID: usize = BAD_REQUEST + 9;
 
-pub const SIZE: usize = 34;
+pub const SIZE: usize = BAD_REQUEST + 10;
 
-pub const NOTHING: usize = 35;
+pub const NOTHING: usize = BAD_REQUEST + 11;
 
-pub const VALUE: usize = 36;
+pub const VALUE: usize = BAD_REQUEST + 12;
 
-pub const OUTSIDE: usize = 37;
+pub const OUTSIDE: usize = BAD_REQUEST + 13;
 
-pub const RESERVED: usize = 38;
+pub const RESERVED: usize = BAD_REQUEST + 14;
 
-pub const NUMBER: usize = 39;
+pub const NUMBER: usize = BAD_REQUEST + 15;
 
-pub const NO: usize = 40;
+pub const NO: usize = BAD_REQUEST + 16;
 
-pub const YES: usize = 41;
+pub const YES: usize = BAD_REQUEST + 17;
 
-pub const DONE: usize = 42;
+pub const DONE: usize = BAD_REQUEST + 18;
 
-pub const COUNTS: usize = 43;
+pub const COUNTS: usize = BAD_REQUEST + 19;
 
-pub const DEVIATION: usize = 44;
+pub const DEVIATION: usize = BAD_REQUEST + 20;
 
-pub const SLOT: usize = 45;
+pub const SLOT: usize = BAD_REQUEST + 21;
 
-pub const TOUCHED: usize = 46;
+pub const TOUCHED: usize = BAD_REQUEST + 22;
+
+pub const LENGTH: usize = BAD_REQUEST + 23;
+
+pub const SET_COUNTS: usize = BAD_REQUEST + 24;
+
+pub const PACK: usize = BAD_REQUEST + 25;
+
+pub const TAGS: usize = BAD_REQUEST + 26;
+
+pub const TAG: usize = BAD_REQUEST + 27;
+
+pub const NO_TAGS: usize = BAD_REQUEST + 28;
 
 // The byte of a form at a place, and a dot past its end.
 pub fn letter(form: usize, i: usize) -> u8

@@ -8,6 +8,7 @@ use lib.ListN.{length}
 use Rattle.text.specs.declared.numeral.Numeral.{Numeral}
 use Rattle.text.specs.declared.numeral.Numeral.the-variants.{Read, Malformed}
 use Rattle.replies.specs.Forms.{letterOf}
+use Rattle.replies.specs.Places.{badRequest}
 use Rattle.requests.specs.declared.request.Request.{Request}
 use Rattle.requests.specs.Form.{formOf}
 use Rattle.requests.specs.Fields.{fieldAt, lineAfter, wordsAfter}
@@ -42,7 +43,7 @@ module _ {line₀ words₀ : List ℕ} {form : ℕ} where
       one-left : 24 - i ≡ suc (24 - (i + 1))
       one-left = omega arith
 
-      pub reading-bad : {r′ : Request} → n ≡ Malformed → r′ ≡ unfilled 24 → Answers line₀ words₀ r′ line′ words′
+      pub reading-bad : {r′ : Request} → n ≡ Malformed → r′ ≡ unfilled badRequest → Answers line₀ words₀ r′ line′ words′
       reading-bad q u = answers line₀ words₀ (rw (f .1 .0, f .1 .1, u) (rw (one-left, ← e, sym (f .0) ∙ q) at (p .rest)))
 
       pub reading-more : {value next : ℕ} {r′ : Request} → n ≡ Read value next → r′ ≡ with l value r

@@ -27,13 +27,13 @@ module _ (form : ℕ) (line : List ℕ) (i : ℕ) where
       pub begun-more : getD line i 0 ≡ l → beginsFrom form i (drop i line) ≡ beginsFrom form (i + 1) (drop (i + 1) line)
       begun-more n = rw (drop-cons line i 0 h, ← e, ← f, eq-eqb (getD line i 0) l n, add-one i)
 
--- ---- the forms that are left of 24
-module _ (line : List ℕ) (form : ℕ) (h : form < 24) where
-  one-left : 24 - form ≡ suc (24 - (form + 1))
+-- ---- the forms that are left of so many
+module _ (n : ℕ) (line : List ℕ) (form : ℕ) (h : form < n) where
+  one-left : n - form ≡ suc (n - (form + 1))
   one-left = omega arith
 
-  pub first-here : true ≡ beginsAs form line → firstFrom (24 - form) form line ≡ form
+  pub first-here : true ≡ beginsAs form line → firstFrom (n - form) form line ≡ form
   first-here e = rw (one-left, ← e)
 
-  pub first-behind : false ≡ beginsAs form line → firstFrom (24 - form) form line ≡ firstFrom (24 - (form + 1)) (form + 1) line
+  pub first-behind : false ≡ beginsAs form line → firstFrom (n - form) form line ≡ firstFrom (n - (form + 1)) (form + 1) line
   first-behind e = rw (one-left, ← e)

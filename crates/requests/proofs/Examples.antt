@@ -8,6 +8,7 @@ use Rattle.text.specs.declared.numeral.Numeral.the-variants.{Read, Malformed}
 use Rattle.text.specs.Numeral.{worth}
 use Rattle.text.specs.Text.{ascii}
 use Rattle.replies.specs.Forms.{forms}
+use Rattle.replies.specs.Places.{badRequest}
 use Rattle.requests.specs.Fields.{wordsLent, most, numberAt, partOf, listOf, wordsOf}
 use Rattle.requests.specs.Fields.{fieldAt, lineAfter, wordsAfter}
 use Rattle.requests.specs.Request.{unfilled, with, askedBy, requestOf, lineLeft}
@@ -38,14 +39,20 @@ pub read-in : requestOf (ascii "read-in BFF0000000000000 4000000000000000 1 2 3 
 unfolding worth forms most numberAt partOf listOf wordsOf fieldAt lineAfter wordsAfter with askedBy
 read-in = refl
 
--- a word too many, a room that is larger than there is, no byte string where one is asked for, and a list too few
-abbrev bad : List ℕ → Type 0
-bad line = requestOf line [] ≡ unfilled 24
-
-pub refused-requests : bad (ascii "peek 01 ") × bad (ascii "map 2 600001 3FF0000000000000") × bad (ascii "peek ")
-    × bad (ascii "usable 2 0 0")
+-- the room for tags, and a byte string
+pub set-read : requestOf (ascii "set 300000 0301E8") []
+    ≡ record { form = 27; size = 0; value = 0; second = 0; given = 3; room = 300000; rows = 0; slots = 0; states = 0 }
 unfolding worth forms most numberAt partOf listOf wordsOf fieldAt lineAfter wordsAfter with askedBy
-refused-requests = (refl, refl, refl, refl)
+set-read = refl
+
+-- a word too many, rooms that are larger than there is, no byte string where one is asked for, and a list too few
+abbrev bad : List ℕ → Type 0
+bad line = requestOf line [] ≡ unfilled badRequest
+
+pub refused-requests : bad (ascii "peek 01 ") × bad (ascii "map 2 600001 3FF0000000000000") × bad (ascii "set 300001 -")
+    × bad (ascii "peek ") × bad (ascii "usable 2 0 0")
+unfolding worth forms most numberAt partOf listOf wordsOf fieldAt lineAfter wordsAfter with askedBy
+refused-requests = (refl, refl, refl, refl, refl)
 
 -- three lists, the last of states in decimal
 pub usable-read : requestOf (ascii "usable 2 0 0 0") []

@@ -5,6 +5,7 @@ use mathlib.Core.List.{List, [], _∷_}
 use lib.Dec.{eqb}
 use Rattle.answers.specs.Table.{pick}
 use Rattle.replies.specs.Forms.{letterOf, isField}
+use Rattle.replies.specs.Places.{badRequest}
 
 -- what is left of the line, from the form's letter i on: the words are the same up to the first field
 abbrev pub beginsFrom : ℕ → ℕ → List ℕ → Bool
@@ -20,6 +21,6 @@ abbrev pub firstFrom : ℕ → ℕ → List ℕ → ℕ
 firstFrom zero form line = form
 firstFrom (suc left) form line = pick (beginsAs form line) form (firstFrom left (form + 1) line)
 
--- the requests are the first 24 forms, and the next is a bad request
+-- the requests are the first forms, and the next is a bad request
 abbrev pub formOf : List ℕ → ℕ
-formOf line = firstFrom 24 0 line
+formOf line = firstFrom badRequest 0 line

@@ -2,6 +2,7 @@
 use crate::limits::BYTES;
 use crate::limits::ROWS;
 use crate::limits::SLOTS;
+use crate::limits::TAGS;
 use crate::limits::WORDS;
 use text::list::list;
 use text::numeral::Entry;
@@ -23,6 +24,7 @@ fn most(letter: u8) -> u64
     match letter {
         b'D' => ROWS as u64,
         b'E' | b'F' => SLOTS as u64,
+        b'G' => TAGS as u64,
         b'R' => BYTES as u64,
         _ => u64::MAX,
     }

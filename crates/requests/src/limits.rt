@@ -4,6 +4,9 @@ use layout::pack::SdccFlp;
 // No request is lent more.
 pub const BYTES: usize = 600_000;
 
+// An item of a set has two bytes at least, so that this is room for the tags of any.
+pub const TAGS: usize = BYTES / 2;
+
 // A request can be lent more than the largest pack has, so that what stands past it shows.
 pub const ROWS: usize = 4 * SdccFlp::MAX_ROWS as usize;
 

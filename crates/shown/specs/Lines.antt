@@ -7,12 +7,13 @@ use Rattle.answers.specs.Table.{pick}
 use Rattle.answers.specs.Lent.{joined}
 use Rattle.shown.specs.declared.lines.Pair.{Pair}
 use Rattle.replies.specs.declared.reply.Reply.{Reply}
+use Rattle.replies.specs.Places.{deviationAt, slotAt}
 use Rattle.replies.specs.Reply.{reply}
 use Rattle.replies.specs.ReplyText.{replyText}
 
 -- row, bits
 abbrev pub deviationReply : ℕ → ℕ → Reply
-deviationReply row bits = reply 44 row bits 0 0
+deviationReply row bits = reply deviationAt row bits 0 0
 
 -- as many as there are, up to a count
 abbrev pub deviationLines : ℕ → List ℕ → List ℕ
@@ -31,7 +32,7 @@ pairAt rows (suc k) = nextPair rows (pairAt rows k)
 
 -- i, j, state, bits
 abbrev pub slotReply : Pair → ℕ → ℕ → Reply
-slotReply p state bits = reply 45 (p .i) (p .j) state bits
+slotReply p state bits = reply slotAt (p .i) (p .j) state bits
 
 abbrev pub slotLines : ℕ → ℕ → List ℕ → List ℕ → List ℕ
 slotLines rows count cs ss =

@@ -2,6 +2,7 @@
 -- Assumes nothing.
 use borrow.Author.Tests.{ne-eqb}
 use borrow.Author.Needs.{needs}
+use Rattle.replies.specs.Places.{doneAt}
 use Rattle.shown.proofs.bytes.put_shown.Statement.{statement}
 use Rattle.shown.proofs.bytes.put_shown.Tie as tie
 
@@ -27,7 +28,7 @@ returns-2 : tie.Need-returns-2
 returns-2 c =
     let w = c .before .before in
     let o = w .before .before in
-    rw (ne-eqb _ 42 (o .before .if1 .left)) (rw (o .of-text .ensures) at (w .put-byte .ensures))
+    rw (ne-eqb _ doneAt (o .before .if1 .left)) (rw (o .of-text .ensures) at (w .put-byte .ensures))
 
 pub put-shown-spec : {M : Type 1} → statement M
 put-shown-spec =

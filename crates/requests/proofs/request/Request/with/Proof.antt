@@ -24,7 +24,7 @@ returns-3 c = ⊎-elim (λ e. rw e) (λ e. rw e) (c .match .keys4)
 
 returns-4 : tie.Need-returns-4
 unfolding with
-returns-4 c = rw (c .match .keys5)
+returns-4 c = ⊎-elim (λ e. rw e) (λ e. rw e) (c .match .keys5)
 
 returns-5 : tie.Need-returns-5
 unfolding with
@@ -50,7 +50,7 @@ other c w x =
       neither _ _ l (r .0 .0 .0 .0 .0 .0 .1),
       ne-eqb l 0x59 (r .0 .0 .0 .0 .0 .1),
       neither _ _ l (r .0 .0 .0 .0 .1),
-      ne-eqb l 0x52 (r .0 .0 .0 .1),
+      neither _ _ l (r .0 .0 .0 .1),
       neither _ _ l (r .0 .0 .1),
       neither _ _ l (r .0 .1),
       neither _ _ l (r .1),
