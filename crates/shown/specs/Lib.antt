@@ -1,3 +1,4 @@
+pub mod Tags
 pub mod Bytes
 pub mod Lines
 pub mod Touched
