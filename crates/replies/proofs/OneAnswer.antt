@@ -16,6 +16,8 @@ use Rattle.replies.proofs.numeric.float_of.Reads as float-of
 use Rattle.replies.proofs.numeric.widen.Reads as widen
 use Rattle.replies.proofs.numeric.narrow.Reads as narrow
 use Rattle.replies.proofs.numeric.of_oid.Reads as of-oid
+use Rattle.replies.proofs.numeric.of_strict_oid.Reads as of-strict-oid
+use Rattle.replies.proofs.numeric.of_ber.Reads as of-ber
 use Rattle.replies.proofs.outcome.of_written.Reads as of-written
 use Rattle.replies.proofs.pack.of_peek.Reads as of-peek
 use Rattle.replies.proofs.pack.of_read.Reads as of-read
@@ -58,6 +60,12 @@ narrow-one κs a r r′ s s′ p q = p ∙ sym q
 
 pub of-oid-one : OneResult of-oid.Learnt
 of-oid-one κs a r r′ s s′ p q = p ∙ sym q
+
+pub of-strict-oid-one : OneResult of-strict-oid.Learnt
+of-strict-oid-one κs a r r′ s s′ p q = p ∙ sym q
+
+pub of-ber-one : OneResult of-ber.Learnt
+of-ber-one κs a r r′ s s′ p q = p ∙ sym q
 
 pub of-written-one : OneResult of-written.Learnt
 of-written-one κs a r r′ s s′ p q = p ∙ sym q

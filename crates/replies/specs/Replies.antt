@@ -13,6 +13,8 @@ use Rattle.answers.specs.declared.Written.the-variants as written
 use Rattle.numbers.specs.Conversions.{converted}
 use Rattle.numbers.specs.declared.ber_oid.BerOid.{BerOid}
 use Rattle.numbers.specs.declared.ber_oid.BerOid.the-variants.{Read, Unreadable}
+use Rattle.numbers.specs.declared.ber.BerLength.{BerLength}
+use Rattle.numbers.specs.declared.ber.BerLength.the-variants as ber
 use Rattle.imapb.specs.declared.decode.DecodedImapb.{DecodedImapb}
 use Rattle.imapb.specs.declared.decode.DecodedImapb.the-variants.{Value, Special, ReservedSpecial, OutOfRange}
 use Rattle.imapb.specs.declared.decode.ImapbRead.{ImapbRead}
@@ -24,7 +26,7 @@ use Rattle.reader.specs.declared.read.ReadAnswer.the-variants as read
 use Rattle.matrix.specs.declared.lookup.Cell.{Cell}
 use Rattle.matrix.specs.declared.lookup.Cell.the-variants as cell
 use Rattle.replies.specs.declared.reply.Reply.{Reply}
-use Rattle.replies.specs.Places.{refusedAt, refusedBitsAt, bitsAt, bits32At, oidAt, sizeAt, nothingAt}
+use Rattle.replies.specs.Places.{refusedAt, refusedBitsAt, bitsAt, bits32At, oidAt, lengthAt, sizeAt, nothingAt}
 use Rattle.replies.specs.Places.{valueAt, outsideAt, reservedAt, numberAt, noAt, yesAt, countsAt}
 use Rattle.replies.specs.Reply.{reply, oneReply, wordsReply}
 use Rattle.replies.specs.Special.{specialReply}
@@ -48,10 +50,24 @@ widenReply bits = oneReply bitsAt (converted binary32 binary64 (bits % 2 ^ 32))
 abbrev pub narrowReply : ℕ → Reply
 narrowReply bits = oneReply bits32At (converted binary64 binary32 bits)
 
--- the value, and how many bytes are left; of one that is unreadable, refusal 1 with 0 and 0
+-- ---- what is read at the front of so many bytes: its value, and how many bytes are left
+abbrev pub frontReply : ℕ → ℕ → ℕ → ℕ → Reply
+frontReply form value taken count = reply form value (count - taken) 0 0
+
+abbrev pub oidOr : Reply → BerOid → ℕ → Reply
+oidOr unreadable (Read value taken) count = frontReply oidAt value taken count
+oidOr unreadable Unreadable count = unreadable
+
+-- of one that is unreadable refusal 1 with 0 and 0, and by the strict reading nothing
 abbrev pub oidReply : BerOid → ℕ → Reply
-oidReply (Read value taken) count = reply oidAt value (count - taken) 0 0
-oidReply Unreadable count = refusedReply (TruncatedField 0 0)
+oidReply read count = oidOr (refusedReply (TruncatedField 0 0)) read count
+
+abbrev pub strictOidReply : BerOid → ℕ → Reply
+strictOidReply read count = oidOr (wordsReply nothingAt) read count
+
+abbrev pub berReply : BerLength → ℕ → Reply
+berReply (ber.Read value taken) count = frontReply lengthAt value taken count
+berReply ber.Unreadable count = wordsReply nothingAt
 
 -- ---- a mapped value
 abbrev pub decodedReply : DecodedImapb → Reply
