@@ -23,6 +23,8 @@ use Rattle.replies.proofs.pack.of_peek.Reads as of-peek
 use Rattle.replies.proofs.pack.of_read.Reads as of-read
 use Rattle.replies.proofs.pack.of_cell.Reads as of-cell
 use Rattle.replies.proofs.pack.of_usable.Reads as of-usable
+use Rattle.replies.proofs.set.of_set.Reads as of-set
+use Rattle.replies.proofs.set.of_place.Reads as of-place
 use Rattle.replies.proofs.put.put_reply.Reads as put-reply
 
 pub letter-one : OneResult letter.Learnt
@@ -81,6 +83,12 @@ of-cell-one κs a r r′ s s′ p q = p ∙ sym q
 
 pub of-usable-one : OneResult of-usable.Learnt
 of-usable-one κs a r r′ s s′ p q = p ∙ sym q
+
+pub of-set-one : OneResult of-set.Learnt
+of-set-one κs a r r′ s s′ p q = p ∙ sym q
+
+pub of-place-one : OneResult of-place.Learnt
+of-place-one κs a r r′ s s′ p q = p ∙ sym q
 
 pub put-reply-one : OneAnswer put-reply.Learnt (λ κs s. now (s .1 .1 .0))
 put-reply-one κs a r r′ s s′ p q = put-one p q

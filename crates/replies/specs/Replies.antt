@@ -25,9 +25,13 @@ use Rattle.reader.specs.declared.read.ReadAnswer.{ReadAnswer}
 use Rattle.reader.specs.declared.read.ReadAnswer.the-variants as read
 use Rattle.matrix.specs.declared.lookup.Cell.{Cell}
 use Rattle.matrix.specs.declared.lookup.Cell.the-variants as cell
+use Rattle.sets.specs.declared.pack.PackPlace.{PackPlace}
+use Rattle.sets.specs.declared.set.SetAnswer.{SetAnswer}
+use Rattle.sets.specs.declared.set.SetAnswer.the-variants as set
 use Rattle.replies.specs.declared.reply.Reply.{Reply}
 use Rattle.replies.specs.Places.{refusedAt, refusedBitsAt, bitsAt, bits32At, oidAt, lengthAt, sizeAt, nothingAt}
-use Rattle.replies.specs.Places.{valueAt, outsideAt, reservedAt, numberAt, noAt, yesAt, countsAt}
+use Rattle.replies.specs.Places.{valueAt, outsideAt, reservedAt, numberAt, noAt, yesAt}
+use Rattle.replies.specs.Places.{countsAt, setCountsAt, packAt}
 use Rattle.replies.specs.Reply.{reply, oneReply, wordsReply}
 use Rattle.replies.specs.Special.{specialReply}
 
@@ -96,6 +100,15 @@ cellReply (cell.Refused r) = refusedReply r
 
 abbrev pub usableReply : Bool → Reply
 usableReply usable = wordsReply (pick usable yesAt noAt)
+
+-- ---- a set: how many packs and tags it has
+abbrev pub setReply : SetAnswer → Reply
+setReply (set.Done packs tags) = reply setCountsAt packs tags 0 0
+setReply (set.Refused r) = refusedReply r
+
+-- where a pack starts and ends in the set, and its tags in the list
+abbrev pub placeReply : PackPlace → Reply
+placeReply p = reply packAt (p .start) (p .end) (p .from) (p .to)
 
 -- ---- what writes: the form of what is done, with the count of bytes
 abbrev pub writtenReply : ℕ → Written → Reply

@@ -8,3 +8,4 @@ pub mod pack;
 pub mod put;
 pub mod refusal;
 pub mod reply;
+pub mod set;

@@ -85,7 +85,7 @@ pub fn of_oid(read: BerOid, count: usize) -> Reply
     oid_or(unreadable, read, count)
 }
 
-// By the strict reading, which is refused by whoever reads an item.
+// Of the strict reading, which has no refusal of its own.
 pub fn of_strict_oid(read: BerOid, count: usize) -> Reply
     ensures { λ r. ⌜ r ≡ strictOidReply read count ⌝ }
 {
