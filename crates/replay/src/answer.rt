@@ -3,18 +3,28 @@ use crate::cells::on_matrix;
 use crate::prints::put_print;
 use crate::ranged::mapped_in;
 use crate::reads::put_read;
+use crate::st0601::put_set;
 use crate::writes::put_write;
 use accounts::account::put_account;
 use imapb::decode::decode_imapb;
 use layout::size::peek_matrix_size;
+use numbers::ber::read_ber;
+use numbers::ber::read_ber_strict;
 use numbers::ber_oid::read_ber_oid;
+use numbers::ber_oid::read_ber_oid_strict;
 use replies::forms::BAD_REQUEST;
+use replies::forms::BER;
 use replies::forms::MAPPED_IN;
 use replies::forms::READ_IN;
+use replies::forms::SET;
+use replies::forms::STRICT_BER;
+use replies::forms::STRICT_OID;
 use replies::forms::WHY;
 use replies::mapped::of_mapped;
 use replies::numeric;
+use replies::numeric::of_ber;
 use replies::numeric::of_oid;
+use replies::numeric::of_strict_oid;
 use replies::pack::of_peek;
 use replies::put::put_reply;
 use replies::reply::Reply;
@@ -33,6 +43,9 @@ fn short(request: Request, given: &[u8], lists: &[u64]) -> Reply {
         4 => of_peek(peek_matrix_size(given)),
         5 | 6 => on_matrix(request, lists),
         MAPPED_IN => mapped_in(request, given),
+        STRICT_OID => of_strict_oid(read_ber_oid_strict(given), given.len()),
+        BER => of_ber(read_ber(given), given.len()),
+        STRICT_BER => of_ber(read_ber_strict(given), given.len()),
         _ => words(BAD_REQUEST),
     }
 }
@@ -50,6 +63,7 @@ fn answer_given(
         7 => put_print(given, at, out),
         8 | READ_IN => put_read(request, given, lists, at, out),
         WHY => put_account(false, given, at, out),
+        SET => put_set(request, given, at, out),
         _ => put_reply(short(request, given, lists), at, out),
     }
 }

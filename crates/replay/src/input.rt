@@ -2,6 +2,9 @@
 use text::part::within;
 use text::put::put_byte;
 
+// As much is held at most as a block has. An answer has room behind it, or is written out as it grows.
+pub(crate) const HELD: usize = 65_536;
+
 // The block's bytes are read anew. The input's end ends a line that was begun, as a newline does.
 pub(crate) fn refill(block: &mut [u8], read: usize) -> usize {
     let got = libc::read(libc::STDIN_FILENO, block);

@@ -6,9 +6,11 @@ mod lists;
 mod prints;
 mod ranged;
 mod reads;
+mod st0601;
 mod writes;
 
 use answer::answer;
+use input::HELD;
 use input::flush_above;
 use input::refill;
 use requests::limits::BYTES;
@@ -19,9 +21,6 @@ use text::put::put_byte;
 
 // A request of so many bytes in hex, with the words before them. Lists that fill all the words take less.
 const LINE: usize = 2 * BYTES + 128;
-
-// As much is held at most as a block has, and an answer has room behind it.
-const HELD: usize = 65_536;
 
 const OUT: usize = 2 * HELD + LINE;
 
