@@ -12,3 +12,8 @@ module _ {K : Type 0} {A R S : K → Type 0} where
   OneAnswer learnt lent =
       (κs : K) (a : A κs) (r r′ : R κs) (s s′ : S κs)
       → learnt κs a r s → learnt κs a r′ s′ → (r ≡ r′) × (lent κs s ≡ lent κs s′)
+
+  -- the same arguments hand back the same, in what `held` reads of the result: a part's entries
+  abbrev pub OnePart : {L : Type 0} → ((κs : K) → A κs → R κs → S κs → Type 0) → ((κs : K) → R κs → L) → Type 0
+  OnePart learnt held =
+      (κs : K) (a : A κs) (r r′ : R κs) (s s′ : S κs) → learnt κs a r s → learnt κs a r′ s′ → held κs r ≡ held κs r′

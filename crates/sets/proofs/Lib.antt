@@ -4,4 +4,8 @@ pub mod Walk
 pub mod Stores
 pub mod Next
 pub mod Taken
+pub mod Given
+pub mod Joined
+pub mod Promise
 pub mod OneAnswer
+pub mod Examples

@@ -21,7 +21,7 @@ use Rattle.sets.specs.declared.pack.NextPack.the-variants.{Pack, Nothing
 use Rattle.sets.specs.Tags.{packTag, isPushed, tagCount}
 use Rattle.sets.specs.Parts.{partOf}
 use Rattle.sets.specs.Items.{itemAt, itemsFrom, itemsOf}
-use Rattle.sets.specs.Packs.{pushed, sizedPack, packIn, before, packsOf, nth, nextPack}
+use Rattle.sets.specs.Packs.{sizedPack, place, packIn, before, packsOf, nth, nextPack}
 use Rattle.sets.proofs.Items.{item-tells, items-none, items-faulty, items-read}
 use Rattle.sets.proofs.Walk.{pushed-count, one}
 
@@ -35,13 +35,26 @@ pub record Found (set : List ℕ) (seen tag start end : ℕ) (p : PackPlace) : T
   pub size : peeked (partOf start end set) ≡ peek.Size n
   pub from : p .from ≡ seen - n
 
+abbrev placeIn : PackPlace → NextPack → PackPlace
+placeIn other (Pack p) = p
+placeIn other Nothing = other
+
 pub pack-tells : (set : List ℕ) (seen tag start end : ℕ) {p : PackPlace} → packIn set seen tag start end ≡ Pack p → Found set seen tag start end p
 pack-tells set seen tag start end {p} = go (eqb tag packTag) (peeked (partOf start end set)) refl refl
   where
     go : (b : Bool) (r : Peek) → eqb tag packTag ≡ b → peeked (partOf start end set) ≡ r
         → pick b (sizedPack seen start end r) Nothing ≡ Pack p → Found set seen tag start end p
     go true (peek.Size n) t e h =
-        record { pack = eqb-true tag packTag t; starts = cc; ends = cc; to = cc; n = n; size = e; from = cc }
+        let same : p ≡ place start end (seen - n) seen = ap (placeIn p) (sym h) in
+        record {
+          pack = eqb-true tag packTag t;
+          starts = ap (λ (q : PackPlace). q .start) same;
+          ends = ap (λ (q : PackPlace). q .end) same;
+          to = ap (λ (q : PackPlace). q .to) same;
+          n = n;
+          size = e;
+          from = ap (λ (q : PackPlace). q .from) same;
+        }
     go true peek.Nothing t e h = let z : _≡_ {A = ℕ} 0 1 = cc in absurd (omega arith)
     go false r t e h = let z : _≡_ {A = ℕ} 0 1 = cc in absurd (omega arith)
 

@@ -1,18 +1,13 @@
 -- No second answer meets a contract: two that do are the same, with what they leave in lent memory.
 -- Assumes nothing.
 use mathlib.Core.Path.{_≡_, refl, sym, ap, _∙_}
-use mathlib.Core.List.{List}
-use Prim.Native.Nat.{ℕ}
 use denote.Ref.{now}
-use Rattle.answers.specs.OneAnswer.{OneResult, OneAnswer}
-use Rattle.answers.specs.Lent.{leaves}
+use Rattle.answers.specs.OneAnswer.{OneResult, OneAnswer, OnePart}
 use Rattle.answers.specs.Table.{Answer}
 use Rattle.answers.proofs.OneToOne.{listed-one, done-not-refused}
 use Rattle.sets.specs.declared.set.SetAnswer.{SetAnswer}
 use Rattle.sets.specs.declared.set.SetAnswer.the-variants.{Done, Refused}
-use Rattle.sets.specs.Items.{itemsOf}
-use Rattle.sets.specs.Packs.{tagsOf}
-use Rattle.sets.specs.Rules.{counts, setListed}
+use Rattle.sets.specs.Rules.{counts, setListed, leftTags}
 use Rattle.sets.proofs.tag.is_pushed.Reads as is-pushed
 use Rattle.sets.proofs.item.read_item.Reads as read-item
 use Rattle.sets.proofs.pack.next_pack.Reads as next-pack
@@ -49,4 +44,17 @@ set-one (Refused r) (Refused r′) e = ap Refused (listed-one r r′ e)
 pub read-set-one : OneAnswer read-set.Learnt (λ κs s. now (s .1 .0))
 read-set-one κs a r r′ s s′ p q =
     let e = p .0 ∙ sym (q .0) in
-    (set-one r r′ e, p .1 ∙ ap (λ (x : Answer). leaves x (tagsOf (itemsOf (now (a .0)))) (now (a .1 .0))) e ∙ sym (q .1))
+    (set-one r r′ e, p .1 ∙ ap (λ (x : Answer). leftTags x (now (a .0)) (now (a .1 .0))) e ∙ sym (q .1))
+
+-- of a part that is handed back, the same entries
+pub pack-part-one : OnePart pack-part.Learnt (λ κs r. now r)
+pack-part-one κs a r r′ s s′ p q = p ∙ sym q
+
+pub tags-part-one : OnePart tags-part.Learnt (λ κs r. now r)
+tags-part-one κs a r r′ s s′ p q = p ∙ sym q
+
+pub pack-of-one : OnePart pack-of.Learnt (λ κs r. now r)
+pack-of-one κs a r r′ s s′ p q = p ∙ sym q
+
+pub tags-of-one : OnePart tags-of.Learnt (λ κs r. now r)
+tags-of-one κs a r r′ s s′ p q = p ∙ sym q

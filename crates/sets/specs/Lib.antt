@@ -4,3 +4,4 @@ pub mod Items
 pub mod Packs
 pub mod Rules
 pub mod Handed
+pub mod Taken

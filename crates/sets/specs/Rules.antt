@@ -6,6 +6,7 @@ use lib.Dec.{eqb, leb}
 use lib.ListN.{length}
 use Rattle.answers.specs.Table.{Answer, answer, short, wholes, pick, passes, next}
 use Rattle.answers.specs.Listed.{listed}
+use Rattle.answers.specs.Lent.{leaves}
 use Rattle.layout.specs.declared.size.Peek.{Peek}
 use Rattle.layout.specs.declared.size.Peek.the-variants as peek
 use Rattle.layout.specs.Size.{peeked}
@@ -54,3 +55,7 @@ setAnswer set room =
 abbrev pub setListed : SetAnswer → Answer
 setListed (Done packs tags) = counts packs tags
 setListed (Refused r) = listed r
+
+-- what is left of the list, by the answer: the set's tags over its front, or all as it was
+abbrev pub leftTags : Answer → List ℕ → List ℕ → List ℕ
+leftTags a set lent = leaves a (tagsOf (itemsOf set)) lent

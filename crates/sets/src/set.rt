@@ -16,10 +16,10 @@ ghost use lib.ListN.{length};
 ghost use Rattle.answers.specs.Table.{next};
 ghost use Rattle.layout.specs.Size.{peeked};
 ghost use Rattle.answers.specs.Listed.{checked};
-ghost use Rattle.answers.specs.Lent.{over, leaves};
+ghost use Rattle.answers.specs.Lent.{over};
 ghost use Rattle.sets.specs.Items.{itemsOf};
 ghost use Rattle.sets.specs.Packs.{tagsOf};
-ghost use Rattle.sets.specs.Rules.{peekRule, packRule, roomRule, setListed, setAnswer};
+ghost use Rattle.sets.specs.Rules.{peekRule, packRule, roomRule, setListed, setAnswer, leftTags};
 
 // How many packs a set has, and how many tags; or why it is refused.
 pub enum SetAnswer {
@@ -105,7 +105,7 @@ fn store_tags(set: &[u8], tags: &mut [u32])
 // The tags of the set into the front of the list, in their order; a set that is refused leaves the list as it was.
 pub fn read_set(set: &[u8], tags: &mut [u32]) -> SetAnswer
     ensures { λ r. ⌜ (setListed r ≡ setAnswer (now (set .entry)) (length (now (tags .entry))))
-        × (now (tags .exit) ≡ leaves (setListed r) (tagsOf (itemsOf (now (set .entry)))) (now (tags .entry))) ⌝ }
+        × (now (tags .exit) ≡ leftTags (setListed r) (now (set .entry)) (now (tags .entry))) ⌝ }
 {
     let decided = decide(set, tags.len());
     let SetAnswer::Done { packs: _, tags: _ } = decided else {

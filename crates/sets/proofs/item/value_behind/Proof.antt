@@ -57,7 +57,7 @@ add-start : tie.Need-add-start
 add-start c = omega (arith, within c)
 
 sub-if1 : tie.Need-sub-if1
-sub-if1 c = within c
+sub-if1 c = omega (arith, within c)
 
 returns-2 : tie.Need-returns-2
 returns-2 c =
