@@ -13,6 +13,7 @@ use Rattle.elements.specs.Elements.{headOf}
 use Rattle.deviations.specs.declared.form.DeviationRange.{DeviationRange}
 use Rattle.deviations.specs.Range.{lentRule}
 use Rattle.rules.specs.Rules.{elementRules, packRules, roomRules}
+use Rattle.rules.proofs.Held.{Rooms, rooms}
 use Rattle.codes.specs.Store.{storeRules}
 use Rattle.reader.specs.Rules.{done, readAnswerIn, readAnswer}
 
@@ -29,6 +30,10 @@ module _ (range : DeviationRange) (bytes : List ℕ) (ds cs ss : ℕ) (z : readA
 
   pub read-done : readAnswerIn range bytes ds cs ss ≡ done (headOf bytes)
   read-done = next-passed (storeRules range bytes ds cs ss) (done (headOf bytes)) passed
+
+  -- the rooms hold what is stored
+  pub read-rooms : Rooms (headOf bytes) ds cs ss
+  read-rooms = rooms (headOf bytes) ds cs ss (next-zero (packRules range bytes) (roomRules (headOf bytes) ds cs ss) passed .1)
 
   pub read-fits : fitRules bytes .number ≡ 0
   read-fits =

@@ -1,6 +1,6 @@
--- No text is longer than the room that is asked for.
+-- How long the lines of the reader's answer are at most.
 -- Assumes nothing.
-use mathlib.Core.Path.{_≡_, refl, sym, ap, _∙_}
+use mathlib.Core.Path.{sym, ap, _∙_}
 use mathlib.Core.Bool.{Bool}
 use mathlib.Core.List.{List, _++_}
 use Prim.Native.Nat.{ℕ, zero, suc, _+_, _-_, _*_, _≤_, _<_}
@@ -26,62 +26,60 @@ use Rattle.rules.proofs.Named.{element-answers}
 use Rattle.lines.specs.Lines.{refusedText, refusedLine, nLine, sLine, cLine, deviationLines}
 use Rattle.lines.proofs.Fits.{Few, refused-length}
 use Rattle.report.specs.Lines.{rowLines, slotLines, packLines}
-use Rattle.report.specs.Printed.{maxRows, maxSlots, room}
-use Rattle.text.proofs.Figures.{length-decimal, length-hex}
+use Rattle.text.proofs.Figures.{length-decimal, longest-decimal, length-hex}
 
--- ---- the lines of a pack of few rows
-n-length : (n d m : ℕ) → n < 100 → d < 100 → m < 10000 → length (nLine n d m) ≤ 30
-n-length n d m h k l = simp length-append (omega (arith, length-decimal 1 n h, length-decimal 1 d k, length-decimal 3 m l))
+-- ---- the lines of a pack whose rows have three digits at most
+n-length : (n d m : ℕ) → length (nLine n d m) ≤ 82
+n-length n d m = simp length-append (omega (arith, longest-decimal n, longest-decimal d, longest-decimal m))
 
-s-length : (i b : ℕ) → i < 100 → length (sLine i b) ≤ 22
-s-length i b h = simp length-append (omega (arith, length-decimal 1 i h, length-hex b))
+s-length : (i b : ℕ) → i < 1000 → length (sLine i b) ≤ 23
+s-length i b h = simp length-append (omega (arith, length-decimal 2 i h, length-hex b))
 
-c-length : (i j p b : ℕ) → i < 100 → j < 100 → p < 10 → length (cLine i j p b) ≤ 27
-c-length i j p b h k l = simp length-append (omega (arith, length-decimal 1 i h, length-decimal 1 j k, length-decimal 0 p l, length-hex b))
+c-length : (i j p b : ℕ) → i < 1000 → j < 1000 → p < 10 → length (cLine i j p b) ≤ 29
+c-length i j p b h k l = simp length-append (omega (arith, length-decimal 2 i h, length-decimal 2 j k, length-decimal 0 p l, length-hex b))
 
-deviations-length : (ds : List ℕ) → length ds ≤ maxRows → length (deviationLines ds) ≤ length ds * 22
-deviations-length ds h = joined-le (λ i. sLine i (getD ds i 0)) 22 (length ds) (λ k l. s-length k (getD ds k 0) (omega arith))
+deviations-length : (ds : List ℕ) → length ds ≤ 1000 → length (deviationLines ds) ≤ length ds * 23
+deviations-length ds h = joined-le (λ i. sLine i (getD ds i 0)) 23 (length ds) (λ k l. s-length k (getD ds k 0) (omega arith))
 
 -- row by row
-module _ (n : ℕ) (cs ss : List ℕ) (few : n ≤ maxRows) (digits : (k : ℕ) → getD ss k 0 < 10) where
-  row-length : (i : ℕ) → i < n → length (rowLines n cs ss i) ≤ (n - 1 - i) * 27
+module _ (n : ℕ) (cs ss : List ℕ) (few : n ≤ 1000) (digits : (k : ℕ) → getD ss k 0 < 10) where
+  row-length : (i : ℕ) → i < n → length (rowLines n cs ss i) ≤ (n - 1 - i) * 29
   row-length i h =
-      joined-le _ 27 (n - 1 - i)
+      joined-le _ 29 (n - 1 - i)
       (λ k l. c-length i (i + 1 + k) (getD ss (slotOf n i (i + 1 + k)) 0) (getD cs (slotOf n i (i + 1 + k)) 0) (omega arith) (omega arith) (digits _))
 
-  rows-length : (i : ℕ) → i ≤ n → length (joined i (rowLines n cs ss)) ≤ slotOf n i (i + 1) * 27
+  rows-length : (i : ℕ) → i ≤ n → length (joined i (rowLines n cs ss)) ≤ slotOf n i (i + 1) * 29
   rows-length zero h = omega arith
   rows-length (suc i) h =
       let e = ap (λ (x : ℕ). slotOf n x (x + 1)) (sym (add-one i)) ∙ row-next n i h in
       rw length-append (omega (arith, rows-length i (omega arith), row-length i h, e))
 
-  slots-length : length (slotLines n cs ss) ≤ slotsOf n * 27
+  slots-length : length (slotLines n cs ss) ≤ slotsOf n * 29
   slots-length = omega (arith, rows-length n (omega arith), row-within n n (omega arith))
 
--- the slots of the most rows
-pub most-slots : slotsOf maxRows ≡ maxSlots
-unfolding slotsOf
-most-slots = refl
+-- the most that the lines of an answer take, where a pack that is read has so many rows at most
+abbrev pub mostLength : ℕ → ℕ
+mostLength rows = 92 + rows * 23 + slotsOf rows * 29
 
--- a pack of so few rows fits
-pub pack-fits : (n : ℕ) (ds cs ss : List ℕ) → n ≤ maxRows → length ds ≤ maxRows → length cs ≡ slotsOf n → ((k : ℕ) → getD ss k 0 < 10)
-    → length (packLines n ds cs ss) ≤ room
-pack-fits n ds cs ss few rows slots digits =
-    let m : slotsOf n ≤ maxSlots = rw most-slots at (slots-mono {m = n} {n = maxRows} few) in
-    let a = nLine n (length ds) (length cs) in
-    omega (
-      arith,
-      length-append (a ++ deviationLines ds) (slotLines n cs ss),
-      length-append a (deviationLines ds),
-      n-length n (length ds) (length cs) (omega arith) (omega arith) (omega arith),
-      deviations-length ds rows,
-      slots-length n cs ss few digits,
-    )
+module _ (most : ℕ) (few : most ≤ 1000) where
+  pub pack-length : (n : ℕ) (ds cs ss : List ℕ) → n ≤ most → length ds ≤ n → ((k : ℕ) → getD ss k 0 < 10)
+      → length (packLines n ds cs ss) ≤ mostLength most
+  pack-length n ds cs ss rows deviations digits =
+      let a = nLine n (length ds) (length cs) in
+      omega (
+        arith,
+        length-append (a ++ deviationLines ds) (slotLines n cs ss),
+        length-append a (deviationLines ds),
+        n-length n (length ds) (length cs),
+        deviations-length ds (omega arith),
+        slots-length n cs ss (omega arith) digits,
+        slots-mono {m = n} {n = most} rows,
+      )
 
 -- ---- a refusal
--- its line fits
-pub refused-fits : (a : Answer) → Few a → length (refusedLine a) ≤ room
-refused-fits a f = rw (length-append (refusedText a)) (omega (arith, refused-length a f))
+-- its line is shorter
+pub line-length : (most : ℕ) (a : Answer) → Few a → length (refusedLine a) ≤ mostLength most
+line-length most a f = rw (length-append (refusedText a)) (omega (arith, refused-length a f))
 
 -- every rule of the reader's order has such an answer
 few-answer : (m : ℕ) (es : List Entry) → T (leb (length es) 3) → Few (answer m es)

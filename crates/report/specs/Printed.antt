@@ -2,17 +2,15 @@
 use Prim.Native.Nat.{ℕ}
 use mathlib.Core.Bool.{Bool, false, _||_}
 use mathlib.Core.List.{List}
-use lib.Dec.{eqb, ltb}
+use lib.Dec.{ltb}
 use lib.ListN.{length}
-use Rattle.answers.specs.Table.{Answer, pick}
+use Rattle.answers.specs.Table.{pick}
 use Rattle.layout.specs.declared.size.Peek.{Peek}
 use Rattle.layout.specs.declared.size.Peek.the-variants.{Size, Nothing}
-use Rattle.layout.specs.Header.{matrixSize}
 use Rattle.layout.specs.Size.{peeked}
-use Rattle.elements.specs.Elements.{headOf, deviations, correlations, states}
 use Rattle.reader.specs.Rules.{readAnswer}
-use Rattle.lines.specs.Lines.{refusedLine}
-use Rattle.report.specs.Lines.{tooBigLine, packLines}
+use Rattle.report.specs.Lines.{tooBigLine}
+use Rattle.report.specs.Answer.{answerLines}
 
 -- the most that is read: so many bytes, and so many rows, which have so many slots
 abbrev pub maxBytes : ℕ
@@ -33,16 +31,9 @@ module _ (bytes : List ℕ) where
   abbrev pub isTooBig : Bool
   isTooBig = ltb maxBytes (length bytes) || isLarge (peeked bytes)
 
-  -- the numbers that were read, or the refusal
-  abbrev pub answerLines : Answer → List ℕ
-  answerLines a =
-      pick (eqb (a .number) 0)
-      (packLines (matrixSize bytes)
-      (deviations bytes (headOf bytes)) (correlations bytes (headOf bytes)) (states bytes (headOf bytes)))
-      (refusedLine a)
-
+  -- the reader's answer, where it is lent room for so many
   abbrev pub readLines : List ℕ
-  readLines = answerLines (readAnswer bytes maxRows maxSlots maxSlots)
+  readLines = answerLines bytes (readAnswer bytes maxRows maxSlots maxSlots)
 
   unfoldable pub printed : List ℕ
   printed = pick isTooBig tooBigLine readLines

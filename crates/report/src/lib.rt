@@ -1,3 +1,4 @@
 //! Which bytes the program prints for which input.
+pub mod answer;
 mod pack;
 pub mod print;

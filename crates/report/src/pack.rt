@@ -55,21 +55,22 @@ fn put_slots(rows: usize, correlations: &[u64], states: &[u8], at: usize, out: &
     next
 }
 
-// All of them, from the front on: the pack's numbers stand at the front of the rooms.
+// All of them: the pack's numbers stand at the front of the rooms.
 pub(crate) fn put_pack(
     pack: SdccFlp,
     deviations: &[u64],
     correlations: &[u64],
     states: &[u8],
+    at: usize,
     out: &mut [u8],
 ) -> usize
     requires { ⌜ Held pack (now deviations) (now correlations) (now states) ⌝ }
     ensures { λ r. ⌜ Put (heldLines pack (now (deviations .entry)) (now (correlations .entry)) (now (states .entry)))
-        0 (now (out .entry)) r (now (out .exit)) ⌝ }
+        at (now (out .entry)) r (now (out .exit)) ⌝ }
 {
     let rows = pack.matrix_size as usize;
     let count = pack.deviations;
-    let counted = put_counts(rows, count, pack.slots, 0, out);
+    let counted = put_counts(rows, count, pack.slots, at, out);
     let rowed = put_rows(&deviations[..count], counted, out);
     put_slots(rows, correlations, states, rowed, out)
 }

@@ -1,15 +1,11 @@
 //! What the program prints.
-use crate::pack::put_pack;
+use crate::answer::put_answer;
 use answers::Refusal;
 use answers::Written;
 use layout::size::Peek;
 use layout::size::peek_matrix_size;
-use lines::refusal::put_refusal;
-use reader::read::ReadAnswer;
-use reader::read::decode_sdcc_flp;
 use text::put::put_text;
 ghost use mathlib.Core.Path.{_≡_};
-ghost use mathlib.Core.Bool.{false};
 ghost use lib.ListN.{length};
 ghost use Rattle.answers.specs.Listed.{written};
 ghost use Rattle.answers.specs.Lent.{leaves};
@@ -60,19 +56,21 @@ fn room_for_states() -> [u8; MAX_SLOTS]
     [0; MAX_SLOTS]
 }
 
-// The reader's answer.
+// The reader's answer, where it is lent room for so many rows.
 fn put_read(bytes: &[u8], out: &mut [u8]) -> usize
-    requires { ⌜ isTooBig (now bytes) ≡ false ⌝ }
     ensures { λ r. ⌜ Put (readLines (now (bytes .entry))) 0 (now (out .entry)) r (now (out .exit)) ⌝ }
 {
     let mut deviations = room_for_deviations();
     let mut correlations = room_for_correlations();
     let mut states = room_for_states();
-    let read = decode_sdcc_flp(bytes, &mut deviations, &mut correlations, &mut states);
-    match read {
-        ReadAnswer::Done(pack) => put_pack(pack, &deviations, &correlations, &states, out),
-        ReadAnswer::Refused(refusal) => put_refusal(refusal, 0, out),
-    }
+    put_answer(
+        bytes,
+        &mut deviations,
+        &mut correlations,
+        &mut states,
+        0,
+        out,
+    )
 }
 
 fn put_printed(bytes: &[u8], out: &mut [u8]) -> usize

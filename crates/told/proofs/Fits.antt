@@ -36,8 +36,8 @@ use Rattle.reasons.proofs.Fits.{reason-length}
 use Rattle.accounts.specs.Account.{slotsText, acceptedText, tellingText, accountText}
 use Rattle.accounts.proofs.Fits.{slots-length}
 use Rattle.report.specs.Printed.{maxRows, maxSlots, isTooBig}
-use Rattle.report.proofs.Fits.{most-slots, few-read}
-use Rattle.report.proofs.Done.{small-rows}
+use Rattle.report.proofs.Fits.{few-read}
+use Rattle.report.proofs.Done.{most-slots, small-rows}
 use Rattle.told.specs.Printed.{printed, room}
 
 -- a refusal carries three numbers at most

@@ -14,9 +14,6 @@ returns c =
     let u = v .before in
     rw (sym (u .is-too-big .ensures) ∙ v .if1 .taken) (w .put-text .ensures)
 
-put-read-requires : tie.Need-put-read-requires
-put-read-requires c κs = sym (c .before .before .is-too-big .ensures) ∙ c .before .if1 .left
-
 returns-2 : tie.Need-returns-2
 unfolding printed
 returns-2 c =
@@ -34,6 +31,6 @@ put-printed-spec =
     (λ c κs. tt)
     (λ c. search needs)
     returns
-    put-read-requires
+    (λ c κs. tt)
     (λ c. search needs)
     returns-2)
