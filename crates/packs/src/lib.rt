@@ -1,0 +1,2 @@
+//! Which bytes the program `set` prints for which input.
+pub mod tags;
