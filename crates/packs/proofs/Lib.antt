@@ -1,1 +1,5 @@
 pub mod Refined
+pub mod Counted
+pub mod Fits
+pub mod OneAnswer
+pub mod Examples

@@ -82,10 +82,10 @@ pub line-length : (most : ℕ) (a : Answer) → Few a → length (refusedLine a)
 line-length most a f = rw (length-append (refusedText a)) (omega (arith, refused-length a f))
 
 -- every rule of the reader's order has such an answer
-few-answer : (m : ℕ) (es : List Entry) → T (leb (length es) 3) → Few (answer m es)
+pub few-answer : (m : ℕ) (es : List Entry) → T (leb (length es) 3) → Few (answer m es)
 few-answer m es t = record { most = leb→le (length es) 3 t }
 
-few-pick : (t : Bool) (a b : Answer) → Few a → Few b → Few (pick t a b)
+pub few-pick : (t : Bool) (a b : Answer) → Few a → Few b → Few (pick t a b)
 few-pick t a b p q = picked Few t a b (λ _. p) (λ _. q)
 
 few-head : (h : Header) → Few (headerRefusal h)

@@ -1,0 +1,65 @@
+-- Document 02, K7: what the program `set` prints for which input, all of it. It is written pack by pack.
+use Prim.Native.Nat.{ℕ}
+use mathlib.Core.Bool.{Bool}
+use mathlib.Core.List.{List, [], _∷_, _++_}
+use lib.Dec.{ltb}
+use lib.ListN.{length}
+use Rattle.answers.specs.Lent.{leaves}
+use Rattle.answers.specs.Table.{pick}
+use Rattle.reader.specs.Rules.{readAnswer}
+use Rattle.sets.specs.declared.pack.PackPlace.{PackPlace}
+use Rattle.sets.specs.declared.set.SetAnswer.{SetAnswer}
+use Rattle.sets.specs.declared.set.SetAnswer.the-variants.{Done, Refused}
+use Rattle.sets.specs.Items.{itemsOf}
+use Rattle.sets.specs.Packs.{tagsOf}
+use Rattle.sets.specs.Rules.{setAnswer}
+use Rattle.sets.specs.Handed.{takenPacks}
+use Rattle.text.specs.Text.{newline}
+use Rattle.report.specs.Lines.{tooBigLine}
+use Rattle.packs.specs.Lines.{setText, bytesOf, packText}
+
+-- the most that is read: so many bytes, whose tags are so many at most, and packs of so many rows, which have so many slots
+abbrev pub maxBytes : ℕ
+maxBytes = 600000
+
+abbrev pub maxTags : ℕ
+maxTags = 300000
+
+abbrev pub maxRows : ℕ
+maxRows = 256
+
+abbrev pub maxSlots : ℕ
+maxSlots = 32640
+
+abbrev pub isTooBig : List ℕ → Bool
+isTooBig bytes = ltb maxBytes (length bytes)
+
+-- ---- the first line, by a tag list of so many entries
+abbrev pub firstLine : List ℕ → ℕ → List ℕ
+firstLine set room = pick (isTooBig set) tooBigLine (setText (setAnswer set room) ++ newline)
+
+-- the packs that follow
+abbrev pub printedPacks : List ℕ → ℕ → List PackPlace
+printedPacks set room = pick (isTooBig set) [] (takenPacks set room)
+
+abbrev pub packCount : SetAnswer → ℕ
+packCount (Done packs tags) = packs
+packCount (Refused r) = 0
+
+-- the tag list as it is left
+abbrev pub leftTags : List ℕ → List ℕ → List ℕ
+leftTags set tags = pick (isTooBig set) tags (leaves (setAnswer set (length tags)) (tagsOf (itemsOf set)) tags)
+
+-- ---- the packs' own texts
+abbrev pub packTexts : List ℕ → List ℕ → List PackPlace → List ℕ
+packTexts set tags [] = []
+packTexts set tags (p ∷ ps) =
+    packText set tags p (readAnswer (bytesOf set p) maxRows maxSlots maxSlots) ++ packTexts set tags ps
+
+-- ---- all of it
+unfoldable pub printed : List ℕ → List ℕ
+printed set = firstLine set maxTags ++ packTexts set (tagsOf (itemsOf set)) (printedPacks set maxTags)
+
+-- the room for the text of a pack
+abbrev pub room : ℕ
+room = 1000000
