@@ -2,11 +2,11 @@
 -- Assumes nothing.
 use mathlib.Core.List.{List, [], _∷_}
 use Prim.Native.Nat.{ℕ, zero, suc, _+_, _-_, _*_}
-use lib.Dec.{ltb}
+use lib.Dec.{eqb, ltb}
 use lib.ListN.{length}
-use Rattle.answers.specs.Table.{Answer, answer, short, wholes, next}
+use Rattle.answers.specs.Table.{Answer, answer, short, wholes, passes, next}
 use Rattle.answers.specs.Listed.{InTable}
-use Rattle.answers.proofs.InTable.{in-done, in-1, in-8, in-pick, in-next, table}
+use Rattle.answers.proofs.InTable.{in-done, in-1, in-8, in-10, in-pick, in-next, table}
 use Rattle.numbers.specs.Words.{wordOf}
 use Rattle.imapb.specs.declared.decode.DecodedImapb.{DecodedImapb}
 use Rattle.imapb.specs.declared.decode.DecodedImapb.the-variants.{Value, Special, ReservedSpecial, OutOfRange}
@@ -18,8 +18,17 @@ use Rattle.layout.specs.declared.header.Header.the-variants.{Open, Unreadable, 
 use Rattle.layout.specs.declared.rule.Rule.{Rule}
 use Rattle.layout.specs.declared.rule.Rule.the-variants.{A, B, C, D, E, F, G, H, I, J, K}
 use Rattle.layout.specs.Header.{matrixSize, controlOf, bodyAt, headerOf, ruleA, ruleB, headerRefusal, headRules}
-use Rattle.layout.specs.Size.{fitRules, sizeRules}
+use Rattle.layout.specs.declared.size.Peek.{Peek}
+use Rattle.layout.specs.declared.size.Peek.the-variants.{Size, Nothing}
+use Rattle.layout.specs.Size.{fitRules, sizeRules, peeked}
 use Rattle.layout.proofs.Peek.{size-answers, fit-answers}
+use Rattle.sets.specs.declared.item.Item.{Item}
+use Rattle.sets.specs.declared.item.Item.the-variants.{Read, Faulty}
+use Rattle.sets.specs.Tags.{packTag}
+use Rattle.sets.specs.Parts.{partOf}
+use Rattle.sets.specs.Items.{Placed, itemsOf}
+use Rattle.sets.specs.Packs.{pushed, tagsOf, packsOf}
+use Rattle.sets.specs.Rules.{peekRule, packRule, roomRule as tagRule, itemRules, setRules, counts}
 use Rattle.elements.specs.Elements.{headOf, deviationsAt, deviationCount, codesAt, presentCount, endAt}
 use Rattle.elements.specs.Formats.{deviationFormat, codeFormat}
 use Rattle.elements.specs.Numbers.{elementRule}
@@ -156,6 +165,24 @@ reads-in : (range : DeviationRange) (bytes : List ℕ) (d c s : ℕ) → InTable
 reads-in range bytes d c s =
     in-next (storeRules range bytes d c s) (done (headOf bytes)) (stores-in range bytes d c s) (search table depth 10)
 
+-- the items of a set
+peeks-in : (r : Peek) → InTable (peekRule r)
+peeks-in (Size n) = in-done []
+peeks-in Nothing = in-1 0 0
+
+items-in : (set : List ℕ) (tags seen at : ℕ) (i : Item) → InTable (itemRules set tags seen at i)
+items-in set tags seen at Faulty = in-10 at
+items-in set tags seen at (Read tag start end) =
+    in-next (packRule set tag start end) (tagRule tags seen tag)
+    (in-pick (eqb tag packTag) (peekRule (peeked (partOf start end set))) passes (peeks-in (peeked (partOf start end set))) (in-done []))
+    (search table depth 10)
+
+sets-in : (set : List ℕ) (tags seen : ℕ) (ps : List Placed) → InTable (setRules set tags seen ps)
+sets-in set tags seen [] = in-done []
+sets-in set tags seen (p ∷ ps) =
+    let n = seen + length (pushed (p .item)) in
+    in-next (itemRules set tags seen (p .at) (p .item)) (setRules set tags n ps) (items-in set tags seen (p .at) (p .item)) (sets-in set tags n ps)
+
 -- the writer's counts, the plan, the room, and the slots
 counts-in : (n count L : ℕ) → InTable (countRules n count L)
 counts-in n count L = search table depth 10
@@ -181,6 +208,9 @@ answered =
       decides = packs-in;
       rooms = rooms-in;
       stores = stores-in;
+      takes = λ set room.
+          let done = counts (length (packsOf set 0 (itemsOf set))) (length (tagsOf (itemsOf set))) in
+          in-next (setRules set room 0 (itemsOf set)) done (sets-in set room 0 (itemsOf set)) (search table depth 10);
       writes = λ ds cs L room.
           let long = length (packBytes ds cs L) in
           let done = answer 0 (wholes (long ∷ [])) in

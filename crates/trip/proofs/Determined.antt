@@ -4,7 +4,7 @@
 use mathlib.Core.List.{List}
 use Prim.Native.Nat.{ℕ}
 use denote.Ref.{now}
-use Rattle.answers.specs.OneAnswer.{OneResult, OneAnswer}
+use Rattle.answers.specs.OneAnswer.{OneResult, OneAnswer, OnePart}
 use Rattle.trip.specs.Tripped.{Lent, lentOf}
 use Rattle.answers.proofs.OneAnswer.{row-of-one}
 use Rattle.answers.proofs.row.row_of.Reads as row-of
@@ -31,10 +31,13 @@ use Rattle.text.proofs.marks.mark.Reads as mark
 use Rattle.text.proofs.marks.mark_words.Reads as mark-words
 use Rattle.text.proofs.marks.changed.Reads as changed
 use Rattle.text.proofs.marks.words_changed.Reads as words-changed
-use Rattle.numbers.proofs.OneAnswer.{read-be-one, ber-oid-len-one, read-ber-oid-one, write-be-one, write-ber-oid-one, nearest-binary64-one, binary64-to-binary32-one, binary32-to-binary64-one, whole-part-one}
+use Rattle.numbers.proofs.OneAnswer.{read-be-one, ber-oid-len-one, read-ber-oid-one, read-ber-oid-strict-one, read-ber-one, read-ber-strict-one, write-be-one, write-ber-oid-one, nearest-binary64-one, binary64-to-binary32-one, binary32-to-binary64-one, whole-part-one}
 use Rattle.numbers.proofs.words.read_be.Reads as read-be
 use Rattle.numbers.proofs.ber_oid.ber_oid_len.Reads as ber-oid-len
 use Rattle.numbers.proofs.ber_oid.read_ber_oid.Reads as read-ber-oid
+use Rattle.numbers.proofs.ber_oid.read_ber_oid_strict.Reads as read-ber-oid-strict
+use Rattle.numbers.proofs.ber.read_ber.Reads as read-ber
+use Rattle.numbers.proofs.ber.read_ber_strict.Reads as read-ber-strict
 use Rattle.numbers.proofs.words.write_be.Reads as write-be
 use Rattle.numbers.proofs.ber_oid.write_ber_oid.Reads as write-ber-oid
 use Rattle.numbers.proofs.conversions.nearest_binary64.Reads as nearest-binary64
@@ -66,6 +69,16 @@ use Rattle.layout.proofs.triangle.corr_slots.Reads as corr-slots
 use Rattle.layout.proofs.triangle.triangle_slot.Reads as triangle-slot
 use Rattle.layout.proofs.pack.bounded_slots.Reads as bounded-slots
 use Rattle.layout.proofs.rule.by.Reads as by
+use Rattle.sets.proofs.OneAnswer.{is-pushed-one, read-item-one, next-pack-one, pack-part-one, tags-part-one, read-set-one, pack-at-one, pack-of-one as set-pack-one, tags-of-one}
+use Rattle.sets.proofs.tag.is_pushed.Reads as is-pushed
+use Rattle.sets.proofs.item.read_item.Reads as read-item
+use Rattle.sets.proofs.pack.next_pack.Reads as next-pack
+use Rattle.sets.proofs.part.pack_part.Reads as pack-part
+use Rattle.sets.proofs.part.tags_part.Reads as tags-part
+use Rattle.sets.proofs.set.read_set.Reads as read-set
+use Rattle.sets.proofs.handed.pack_at.Reads as pack-at
+use Rattle.sets.proofs.handed.pack_of.Reads as set-pack
+use Rattle.sets.proofs.handed.tags_of.Reads as tags-of
 use Rattle.elements.proofs.OneAnswer.{open-pack-one, deviation-count-one, pack-of-one, left-one, check-number-one, value-bits-one, deviation-at-one, check-slot-one, state-of-one, slot-of-one, correlation-at-one, slot-at-one, is-present-one, present-count-one}
 use Rattle.elements.proofs.head.open_pack.Reads as open-pack
 use Rattle.elements.proofs.head.deviation_count.Reads as deviation-count
@@ -127,10 +140,17 @@ use Rattle.accounts.proofs.OneAnswer.{put-account-one}
 use Rattle.accounts.proofs.account.put_account.Reads as put-account
 use Rattle.told.proofs.OneAnswer.{print-why-one}
 use Rattle.told.proofs.print.print_why.Reads as print-why
-use Rattle.report.proofs.OneAnswer.{is-too-big-one, print-pack-one}
+use Rattle.report.proofs.OneAnswer.{put-answer-one, is-too-big-one, print-pack-one}
+use Rattle.report.proofs.answer.put_answer.Reads as put-answer
 use Rattle.report.proofs.print.is_too_big.Reads as is-too-big
 use Rattle.report.proofs.print.print_pack.Reads as print-pack
-use Rattle.replies.proofs.OneAnswer.{letter-one, is-field-one, one-one, words-one, refused-one, special-of-one, special-one, of-mapped-one, widen-one, narrow-one, float-of-one, of-oid-one, of-written-one, of-peek-one, of-read-one, of-cell-one, of-usable-one, put-reply-one}
+use Rattle.packs.proofs.OneAnswer.{is-too-big-one as set-too-big-one, put-set-one, put-first-one, put-tags-one, put-pack-of-one}
+use Rattle.packs.proofs.first.is_too_big.Reads as set-too-big
+use Rattle.packs.proofs.first.put_set.Reads as put-set
+use Rattle.packs.proofs.first.put_first.Reads as put-first
+use Rattle.packs.proofs.tags.put_tags.Reads as put-tags
+use Rattle.packs.proofs.pack.put_pack_of.Reads as put-pack-of
+use Rattle.replies.proofs.OneAnswer.{letter-one, is-field-one, one-one, words-one, refused-one, special-of-one, special-one, of-mapped-one, widen-one, narrow-one, float-of-one, of-oid-one, of-strict-oid-one, of-ber-one, of-written-one, of-peek-one, of-read-one, of-cell-one, of-usable-one, of-set-one, of-place-one, put-reply-one}
 use Rattle.replies.proofs.forms.letter.Reads as letter
 use Rattle.replies.proofs.forms.is_field.Reads as is-field
 use Rattle.replies.proofs.reply.one.Reads as one
@@ -143,13 +163,19 @@ use Rattle.replies.proofs.numeric.widen.Reads as widen
 use Rattle.replies.proofs.numeric.narrow.Reads as narrow
 use Rattle.replies.proofs.numeric.float_of.Reads as float-of
 use Rattle.replies.proofs.numeric.of_oid.Reads as of-oid
+use Rattle.replies.proofs.numeric.of_strict_oid.Reads as of-strict-oid
+use Rattle.replies.proofs.numeric.of_ber.Reads as of-ber
 use Rattle.replies.proofs.outcome.of_written.Reads as of-written
 use Rattle.replies.proofs.pack.of_peek.Reads as of-peek
 use Rattle.replies.proofs.pack.of_read.Reads as of-read
 use Rattle.replies.proofs.pack.of_cell.Reads as of-cell
 use Rattle.replies.proofs.pack.of_usable.Reads as of-usable
+use Rattle.replies.proofs.set.of_set.Reads as of-set
+use Rattle.replies.proofs.set.of_place.Reads as of-place
 use Rattle.replies.proofs.put.put_reply.Reads as put-reply
-use Rattle.shown.proofs.OneAnswer.{put-bytes-one, put-deviations-one, put-slots-one, put-touched-one, put-written-one, put-pack-one}
+use Rattle.shown.proofs.OneAnswer.{within-tags-one, tags-changed-one, put-bytes-one, put-deviations-one, put-slots-one, put-touched-one, put-written-one, put-pack-one}
+use Rattle.shown.proofs.tags.within_tags.Reads as within-tags
+use Rattle.shown.proofs.tags.tags_changed.Reads as tags-changed
 use Rattle.shown.proofs.bytes.put_bytes.Reads as put-bytes
 use Rattle.shown.proofs.lines.put_deviations.Reads as put-deviations
 use Rattle.shown.proofs.lines.put_slots.Reads as put-slots
@@ -192,6 +218,9 @@ pub record Determined : Type 0 where
   pub read-be-determined : OneResult read-be.Learnt
   pub ber-oid-len-determined : OneResult ber-oid-len.Learnt
   pub read-ber-oid-determined : OneResult read-ber-oid.Learnt
+  pub read-ber-oid-strict-determined : OneResult read-ber-oid-strict.Learnt
+  pub read-ber-determined : OneResult read-ber.Learnt
+  pub read-ber-strict-determined : OneResult read-ber-strict.Learnt
   pub write-be-determined : OneAnswer write-be.Learnt (λ κs s. now (s .1 .0))
   pub write-ber-oid-determined : OneAnswer write-ber-oid.Learnt (λ κs s. now (s .1 .0))
   pub nearest-binary64-determined : OneResult nearest-binary64.Learnt
@@ -223,6 +252,16 @@ pub record Determined : Type 0 where
   pub triangle-slot-determined : OneResult triangle-slot.Learnt
   pub bounded-slots-determined : OneResult bounded-slots.Learnt
   pub by-determined : OneResult by.Learnt
+  -- the packs of a set
+  pub is-pushed-determined : OneResult is-pushed.Learnt
+  pub read-item-determined : OneResult read-item.Learnt
+  pub next-pack-determined : OneResult next-pack.Learnt
+  pub pack-part-determined : OnePart pack-part.Learnt (λ κs r. now r)
+  pub tags-part-determined : OnePart tags-part.Learnt (λ κs r. now r)
+  pub read-set-determined : OneAnswer read-set.Learnt (λ κs s. now (s .1 .0))
+  pub pack-at-determined : OneResult pack-at.Learnt
+  pub set-pack-determined : OnePart set-pack.Learnt (λ κs r. now r)
+  pub tags-of-determined : OnePart tags-of.Learnt (λ κs r. now r)
   -- the elements of a pack
   pub open-pack-determined : OneResult open-pack.Learnt
   pub deviation-count-determined : OneResult deviation-count.Learnt
@@ -271,8 +310,16 @@ pub record Determined : Type 0 where
   pub put-counts-determined : OneAnswer put-counts.Learnt (λ κs s. now (s .1 .1 .1 .1 .0))
   pub put-line-determined : OneAnswer put-line.Learnt (λ κs s. now (s .1 .1 .1 .1 .1 .0))
   pub put-rows-determined : OneAnswer put-rows.Learnt (λ κs s. now (s .1 .1 .0))
+  pub put-answer-determined : OneAnswer {L = List ℕ × List ℕ × List ℕ × List ℕ} put-answer.Learnt
+      (λ κs s. (now (s .1 .0), now (s .1 .1 .0), now (s .1 .1 .1 .0), now (s .1 .1 .1 .1 .1 .0)))
   pub is-too-big-determined : OneResult is-too-big.Learnt
   pub print-pack-determined : OneAnswer print-pack.Learnt (λ κs s. now (s .1 .0))
+  pub set-too-big-determined : OneResult set-too-big.Learnt
+  pub put-set-determined : OneAnswer put-set.Learnt (λ κs s. now (s .1 .1 .0))
+  pub put-first-determined : OneAnswer {L = List ℕ × List ℕ} put-first.Learnt (λ κs s. (now (s .1 .0), now (s .1 .1 .1 .0)))
+  pub put-tags-determined : OneAnswer put-tags.Learnt (λ κs s. now (s .1 .1 .0))
+  pub put-pack-of-determined : OneAnswer {L = List ℕ × List ℕ × List ℕ × List ℕ} put-pack-of.Learnt
+      (λ κs s. (now (s .1 .1 .1 .0), now (s .1 .1 .1 .1 .0), now (s .1 .1 .1 .1 .1 .0), now (s .1 .1 .1 .1 .1 .1 .1 .0)))
   pub put-reason-determined : OneAnswer put-reason.Learnt (λ κs s. now (s .1 .1 .1 .1 .1 .1 .0))
   pub put-gap-determined : OneAnswer put-gap.Learnt (λ κs s. now (s .1 .1 .0))
   pub put-elements-determined : OneAnswer put-elements.Learnt (λ κs s. now (s .1 .1 .1 .0))
@@ -294,12 +341,18 @@ pub record Determined : Type 0 where
   pub narrow-determined : OneResult narrow.Learnt
   pub float-of-determined : OneResult float-of.Learnt
   pub of-oid-determined : OneResult of-oid.Learnt
+  pub of-strict-oid-determined : OneResult of-strict-oid.Learnt
+  pub of-ber-determined : OneResult of-ber.Learnt
   pub of-written-determined : OneResult of-written.Learnt
   pub of-peek-determined : OneResult of-peek.Learnt
   pub of-read-determined : OneResult of-read.Learnt
   pub of-cell-determined : OneResult of-cell.Learnt
   pub of-usable-determined : OneResult of-usable.Learnt
+  pub of-set-determined : OneResult of-set.Learnt
+  pub of-place-determined : OneResult of-place.Learnt
   pub put-reply-determined : OneAnswer put-reply.Learnt (λ κs s. now (s .1 .1 .0))
+  pub within-tags-determined : OneResult within-tags.Learnt
+  pub tags-changed-determined : OneResult tags-changed.Learnt
   pub put-bytes-determined : OneAnswer put-bytes.Learnt (λ κs s. now (s .1 .1 .1 .0))
   pub put-deviations-determined : OneAnswer put-deviations.Learnt (λ κs s. now (s .1 .1 .1 .0))
   pub put-slots-determined : OneAnswer put-slots.Learnt (λ κs s. now (s .1 .1 .1 .1 .1 .0))
@@ -338,6 +391,9 @@ determined =
       read-be-determined = read-be-one;
       ber-oid-len-determined = ber-oid-len-one;
       read-ber-oid-determined = read-ber-oid-one;
+      read-ber-oid-strict-determined = read-ber-oid-strict-one;
+      read-ber-determined = read-ber-one;
+      read-ber-strict-determined = read-ber-strict-one;
       write-be-determined = write-be-one;
       write-ber-oid-determined = write-ber-oid-one;
       nearest-binary64-determined = nearest-binary64-one;
@@ -366,6 +422,15 @@ determined =
       triangle-slot-determined = triangle-slot-one;
       bounded-slots-determined = bounded-slots-one;
       by-determined = by-one;
+      is-pushed-determined = is-pushed-one;
+      read-item-determined = read-item-one;
+      next-pack-determined = next-pack-one;
+      pack-part-determined = pack-part-one;
+      tags-part-determined = tags-part-one;
+      read-set-determined = read-set-one;
+      pack-at-determined = pack-at-one;
+      set-pack-determined = set-pack-one;
+      tags-of-determined = tags-of-one;
       open-pack-determined = open-pack-one;
       deviation-count-determined = deviation-count-one;
       pack-of-determined = pack-of-one;
@@ -406,8 +471,14 @@ determined =
       put-counts-determined = put-counts-one;
       put-line-determined = put-line-one;
       put-rows-determined = put-rows-one;
+      put-answer-determined = put-answer-one;
       is-too-big-determined = is-too-big-one;
       print-pack-determined = print-pack-one;
+      set-too-big-determined = set-too-big-one;
+      put-set-determined = put-set-one;
+      put-first-determined = put-first-one;
+      put-tags-determined = put-tags-one;
+      put-pack-of-determined = put-pack-of-one;
       put-reason-determined = put-reason-one;
       put-gap-determined = put-gap-one;
       put-elements-determined = put-elements-one;
@@ -428,12 +499,18 @@ determined =
       narrow-determined = narrow-one;
       float-of-determined = float-of-one;
       of-oid-determined = of-oid-one;
+      of-strict-oid-determined = of-strict-oid-one;
+      of-ber-determined = of-ber-one;
       of-written-determined = of-written-one;
       of-peek-determined = of-peek-one;
       of-read-determined = of-read-one;
       of-cell-determined = of-cell-one;
       of-usable-determined = of-usable-one;
+      of-set-determined = of-set-one;
+      of-place-determined = of-place-one;
       put-reply-determined = put-reply-one;
+      within-tags-determined = within-tags-one;
+      tags-changed-determined = tags-changed-one;
       put-bytes-determined = put-bytes-one;
       put-deviations-determined = put-deviations-one;
       put-slots-determined = put-slots-one;

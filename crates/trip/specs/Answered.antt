@@ -10,6 +10,7 @@ use Rattle.layout.specs.declared.control.ParseControl.{ParseControl}
 use Rattle.layout.specs.declared.rule.Rule.{Rule}
 use Rattle.layout.specs.Header.{headRules}
 use Rattle.layout.specs.Size.{sizeRules, fitRules}
+use Rattle.sets.specs.Rules.{setAnswer}
 use Rattle.elements.specs.declared.head.Head.{Head}
 use Rattle.deviations.specs.declared.form.DeviationRange.{DeviationRange}
 use Rattle.deviations.specs.Range.{lentRule}
@@ -36,6 +37,8 @@ pub record Answered : Type 0 where
   pub decides : (range : DeviationRange) (bytes : List ℕ) → InTable (packRules range bytes)
   pub rooms : (h : Head) (d c s : ℕ) → InTable (roomRules h d c s)
   pub stores : (range : DeviationRange) (bytes : List ℕ) (d c s : ℕ) → InTable (storeRules range bytes d c s)
+  -- a set, for every byte string and every tag list
+  pub takes : (set : List ℕ) (room : ℕ) → InTable (setAnswer set room)
   -- the writer, for all numbers and rooms; the plan and the slots within it
   pub writes : (ds cs : List ℕ) (L room : ℕ) → InTable (writeAnswer ds cs L room)
   pub plans : (n : ℕ) (cs : List ℕ) (L : ℕ) → InTable (planRules n cs L)
