@@ -1,11 +1,11 @@
 -- The first line, and the text of each pack of a set, fit the room for them.
 -- Assumes nothing.
-use mathlib.Core.Path.{_≡_, refl, sym, ap, _∙_}
+use mathlib.Core.Path.{_≡_, refl, ap}
 use mathlib.Core.List.{List, [], _∷_, _++_}
 use Prim.Native.Nat.{ℕ, _+_, _-_, _*_, _≤_}
 use native.Mathlib.Omega.{arith}
 use lib.Dec.{eqb, leb, ltb}
-use lib.ListN.{length, take, drop, length-append, length-take}
+use lib.ListN.{length, drop, length-append, length-take}
 use Rattle.answers.specs.Table.{Answer, plains}
 use Rattle.answers.proofs.Rules.{picked}
 use Rattle.layout.specs.declared.size.Peek.{Peek}
@@ -19,10 +19,10 @@ use Rattle.sets.specs.declared.item.Item.the-variants.{Read, Faulty}
 use Rattle.sets.specs.declared.pack.PackPlace.{PackPlace}
 use Rattle.sets.specs.declared.pack.NextPack.{NextPack}
 use Rattle.sets.specs.declared.pack.NextPack.the-variants.{Pack, Nothing}
-use Rattle.sets.specs.Items.{Placed, itemsFrom, itemsOf}
+use Rattle.sets.specs.Items.{Placed, itemsFrom}
 use Rattle.sets.specs.Packs.{pushed, packOf, packsOf, nth, nextPack, sizedPack, before}
 use Rattle.sets.specs.Parts.{partOf}
-use Rattle.sets.specs.Rules.{peekRule, packRule, roomRule, itemRules, setRules, counts, setAnswer}
+use Rattle.sets.specs.Rules.{peekRule, itemRules, setRules, setAnswer}
 use Rattle.sets.specs.Tags.{packTag}
 use Rattle.reader.specs.Rules.{readAnswer}
 use Rattle.text.specs.Text.{ascii, newline}

@@ -1,5 +1,6 @@
 pub mod Refined
 pub mod Counted
+pub mod Room
 pub mod Fits
 pub mod OneAnswer
 pub mod Examples

@@ -12,7 +12,7 @@ use sets::pack::PackPlace;
 use sets::pack::next_pack;
 ghost use mathlib.Core.Path.{_≡_};
 ghost use lib.ListN.{length};
-ghost use Rattle.packs.specs.Printed.{maxRows, maxSlots};
+ghost use Rattle.packs.specs.Printed.{maxTags, maxRows, maxSlots, room};
 
 // One byte more than the most that is read.
 const INPUT: usize = MAX_BYTES + 1;
@@ -22,7 +22,9 @@ fn room_for_input() -> [u8; INPUT] {
     [0; INPUT]
 }
 
-fn room_for_tags() -> [u32; MAX_TAGS] {
+fn room_for_tags() -> [u32; MAX_TAGS]
+    ensures { λ r. ⌜ maxTags ≡ length r ⌝ }
+{
     [0; MAX_TAGS]
 }
 
@@ -44,7 +46,10 @@ fn room_for_states() -> [u8; MAX_SLOTS]
     [0; MAX_SLOTS]
 }
 
-fn room_for_text() -> [u8; ROOM] {
+// Any pack's text fits (packs, Fits).
+fn room_for_text() -> [u8; ROOM]
+    ensures { λ r. ⌜ room ≡ length r ⌝ }
+{
     [0; ROOM]
 }
 
