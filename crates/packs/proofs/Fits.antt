@@ -1,6 +1,6 @@
 -- The first line, and the text of each pack of a set, fit the room for them.
 -- Assumes nothing.
-use mathlib.Core.Path.{_≡_, refl, ap}
+use mathlib.Core.Path.{_≡_, ap}
 use mathlib.Core.List.{List, [], _∷_, _++_}
 use Prim.Native.Nat.{ℕ, _+_, _-_, _*_, _≤_}
 use native.Mathlib.Omega.{arith}
@@ -10,7 +10,6 @@ use Rattle.answers.specs.Table.{Answer, plains}
 use Rattle.answers.proofs.Rules.{picked}
 use Rattle.layout.specs.declared.size.Peek.{Peek}
 use Rattle.layout.specs.declared.size.Peek.the-variants as peek
-use Rattle.layout.specs.Size.{peeked}
 use Rattle.layout.proofs.Peek.{peek-size}
 use Rattle.layout.proofs.RowByRow.{most-slots}
 use Rattle.elements.proofs.Opened.{fit-within}
@@ -20,10 +19,10 @@ use Rattle.sets.specs.declared.pack.PackPlace.{PackPlace}
 use Rattle.sets.specs.declared.pack.NextPack.{NextPack}
 use Rattle.sets.specs.declared.pack.NextPack.the-variants.{Pack, Nothing}
 use Rattle.sets.specs.Items.{Placed, itemsFrom}
-use Rattle.sets.specs.Packs.{pushed, packOf, packsOf, nth, nextPack, sizedPack, before}
+use Rattle.sets.specs.Packs.{pushed, packOf, packsOf, nth, nextPack, before}
 use Rattle.sets.specs.Parts.{partOf}
 use Rattle.sets.specs.Rules.{peekRule, itemRules, setRules, setAnswer}
-use Rattle.sets.specs.Tags.{packTag}
+use Rattle.sets.proofs.Next.{pack-tells}
 use Rattle.reader.specs.Rules.{readAnswer}
 use Rattle.text.specs.Text.{ascii, newline}
 use Rattle.lines.specs.Lines.{numbers}
@@ -106,20 +105,13 @@ pub record FewTags (p : PackPlace) : Type 0 where
   pub refined : p .to ≤ p .from + maxRows
 
 module _ (set : List ℕ) where
-  sized-few : (seen start end : ℕ) (q : Peek) → peeked (partOf start end set) ≡ q → {p : PackPlace} → sizedPack seen start end q ≡ Pack p → FewTags p
-  sized-few seen start end (peek.Size n) e {p} h =
-      let f = peek-size (partOf start end set) n .0 e in
-      let w = fit-within (partOf start end set) (ap (λ a. a .number) (f .0)) .rows in
-      let t : p .to ≡ seen = cc in
-      let s : p .from ≡ seen - n = cc in
-      record { refined = omega (arith, f .1, w, t, s) }
-  sized-few seen start end peek.Nothing e h = let z : _≡_ {A = ℕ} 0 1 = cc in absurd (omega arith)
-
   item-few : (seen : ℕ) (i : Item) {p : PackPlace} → packOf set seen i ≡ Pack p → FewTags p
-  item-few seen Faulty = λ h. let z : _≡_ {A = ℕ} 0 1 = cc in absurd (omega arith)
-  item-few seen (Read tag start end) {p} =
-      picked (λ (x : NextPack). x ≡ Pack p → FewTags p) (eqb tag packTag) _ _ (λ _. sized-few seen start end (peeked (partOf start end set)) refl)
-      (λ _ h. let z : _≡_ {A = ℕ} 0 1 = cc in absurd (omega arith))
+  item-few seen Faulty h = let z : _≡_ {A = ℕ} 0 1 = cc in absurd (omega arith)
+  item-few seen (Read tag start end) h =
+      let f = pack-tells set seen tag start end h in
+      let s = peek-size (partOf start end set) (f .n) .0 (f .size) in
+      let w = fit-within (partOf start end set) (ap (λ (a : Answer). a .number) (s .0)) .rows in
+      record { refined = omega (arith, f .to, f .from, s .1, w) }
 
   -- an item's own, or the first behind it
   either-few : {p : PackPlace} (ps : List PackPlace) (own : NextPack) → (own ≡ Pack p → FewTags p) → (nth 0 ps ≡ Pack p → FewTags p)

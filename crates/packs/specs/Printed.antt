@@ -1,5 +1,6 @@
 -- Document 02, K7: what the program `set` prints for which input, all of it. It is written pack by pack.
-use Prim.Native.Nat.{ℕ}
+use Prim.Native.Nat.{ℕ, zero, suc}
+use mathlib.Core.Path.{_≡_}
 use mathlib.Core.Bool.{Bool}
 use mathlib.Core.List.{List, [], _∷_, _++_}
 use lib.Dec.{ltb}
@@ -8,10 +9,12 @@ use Rattle.answers.specs.Lent.{leaves}
 use Rattle.answers.specs.Table.{pick}
 use Rattle.reader.specs.Rules.{readAnswer}
 use Rattle.sets.specs.declared.pack.PackPlace.{PackPlace}
+use Rattle.sets.specs.declared.pack.NextPack.{NextPack}
+use Rattle.sets.specs.declared.pack.NextPack.the-variants.{Pack, Nothing}
 use Rattle.sets.specs.declared.set.SetAnswer.{SetAnswer}
 use Rattle.sets.specs.declared.set.SetAnswer.the-variants.{Done, Refused}
 use Rattle.sets.specs.Items.{itemsOf}
-use Rattle.sets.specs.Packs.{tagsOf}
+use Rattle.sets.specs.Packs.{tagsOf, place, nextPack}
 use Rattle.sets.specs.Rules.{setAnswer}
 use Rattle.sets.specs.Handed.{takenPacks}
 use Rattle.text.specs.Text.{newline}
@@ -59,6 +62,25 @@ packTexts set tags (p ∷ ps) =
 -- ---- all of it
 unfoldable pub printed : List ℕ → List ℕ
 printed set = firstLine set maxTags ++ packTexts set (tagsOf (itemsOf set)) (printedPacks set maxTags)
+
+-- what a loop of so many turns writes, from pack to pack by the tag list that it was lent
+abbrev pub behindText : List ℕ → List ℕ → NextPack → (PackPlace → List ℕ) → List ℕ
+behindText set tags Nothing rest = []
+behindText set tags (Pack p) rest = packText set tags p (readAnswer (bytesOf set p) maxRows maxSlots maxSlots) ++ rest p
+
+abbrev pub loopText : ℕ → List ℕ → List ℕ → PackPlace → List ℕ
+loopText zero set tags p = []
+loopText (suc left) set tags p = behindText set tags (nextPack set p) (λ q. loopText left set tags q)
+
+-- before the first pack
+abbrev pub none : PackPlace
+none = place 0 0 0 0
+
+-- what the program writes is all of it, whatever its tag list held
+abbrev pub LoopPrints : Type 0
+LoopPrints =
+    (set tags : List ℕ) → length tags ≡ maxTags
+    → firstLine set maxTags ++ loopText (length (printedPacks set maxTags)) set (leftTags set tags) none ≡ printed set
 
 -- the room for the text of a pack
 abbrev pub room : ℕ
