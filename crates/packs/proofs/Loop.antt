@@ -9,7 +9,6 @@ use lib.Dec.{eqb}
 use lib.ListN.{length, take, drop, length-append}
 use Rattle.answers.specs.Lent.{over}
 use Rattle.answers.proofs.Rules.{by-bool}
-use Rattle.reader.specs.Rules.{readAnswer}
 use Rattle.sets.specs.declared.item.Item.{Item}
 use Rattle.sets.specs.declared.item.Item.the-variants.{Read, Faulty}
 use Rattle.sets.specs.declared.pack.PackPlace.{PackPlace}
@@ -20,18 +19,16 @@ use Rattle.sets.specs.Packs.{pushed, tagsOf, packOf, before, packsOf, nth, next
 use Rattle.sets.specs.Parts.{partOf}
 use Rattle.sets.specs.Rules.{setAnswer}
 use Rattle.sets.proofs.Next.{pack-tells, next-nth}
-use Rattle.packs.specs.Lines.{bytesOf, packText}
-use Rattle.packs.specs.Printed.{maxTags, maxRows, maxSlots, isTooBig, firstLine, printedPacks, leftTags, packTexts, behindText, loopText, none, printed, LoopPrints}
+use Rattle.packs.specs.Printed.{maxTags, isTooBig, firstLine, printedPacks, leftTags, textOf, textsOf, behindText, loopText, none, printed, LoopPrints}
 
 -- ---- from pack to pack
 loop-texts : (set tags : List ℕ) (ps : List PackPlace) (b : PackPlace) → nextPack set b ≡ nth 0 ps
     → ((j : ℕ) (p : PackPlace) → nth j ps ≡ Pack p → nextPack set p ≡ nth (suc j) ps)
-    → loopText (length ps) set tags b ≡ packTexts set tags ps
+    → loopText (length ps) set tags b ≡ textsOf set tags ps
 loop-texts set tags [] b e h = refl
 loop-texts set tags (p ∷ ps) b e h =
     ap (λ (x : NextPack). behindText set tags x (λ q. loopText (length ps) set tags q)) e
-    ∙ ap (λ (t : List ℕ). packText set tags p (readAnswer (bytesOf set p) maxRows maxSlots maxSlots) ++ t)
-    (loop-texts set tags ps p (h 0 p refl) (λ j q k. h (suc j) q k))
+    ∙ ap (λ (t : List ℕ). textOf set tags p ++ t) (loop-texts set tags ps p (h 0 p refl) (λ j q k. h (suc j) q k))
 
 -- ---- what stands behind the set's tags in the list is never read
 part-front : (ts rest : List ℕ) (from k : ℕ) → from + k ≤ length ts → take k (drop from (ts ++ rest)) ≡ take k (drop from ts)
@@ -46,24 +43,21 @@ module _ (set ts rest : List ℕ) where
       rw (le-ltb (length (ts ++ rest)) (p .to) (omega (arith, length-append ts rest)), le-ltb (length ts) (p .to) h)
       (part-front ts rest (p .from) (p .to - p .from) (omega arith))
 
-  abbrev textBy : List ℕ → PackPlace → List ℕ
-  textBy tags p = packText set tags p (readAnswer (bytesOf set p) maxRows maxSlots maxSlots)
-
   -- a pack's part ends where the tags seen before it do
-  item-text : (seen : ℕ) (i : Item) (p : PackPlace) → packOf set seen i ≡ Pack p → seen ≤ length ts → textBy (ts ++ rest) p ≡ textBy ts p
+  item-text : (seen : ℕ) (i : Item) (p : PackPlace) → packOf set seen i ≡ Pack p → seen ≤ length ts → textOf set (ts ++ rest) p ≡ textOf set ts p
   item-text seen Faulty p h l = let z : _≡_ {A = ℕ} 0 1 = cc in absurd (omega arith)
   item-text seen (Read tag start end) p h l =
       let f = pack-tells set seen tag start end h in
       rw (tags-front p (omega (arith, f .to, f .from)) (omega (arith, f .to)))
 
   -- one, where there is one, before others
-  more-texts : (x : NextPack) (ps : List PackPlace) → ((p : PackPlace) → x ≡ Pack p → textBy (ts ++ rest) p ≡ textBy ts p)
-      → packTexts set (ts ++ rest) ps ≡ packTexts set ts ps → packTexts set (ts ++ rest) (before x ps) ≡ packTexts set ts (before x ps)
+  more-texts : (x : NextPack) (ps : List PackPlace) → ((p : PackPlace) → x ≡ Pack p → textOf set (ts ++ rest) p ≡ textOf set ts p)
+      → textsOf set (ts ++ rest) ps ≡ textsOf set ts ps → textsOf set (ts ++ rest) (before x ps) ≡ textsOf set ts (before x ps)
   more-texts Nothing ps f e = e
   more-texts (Pack p) ps f e = ap₂ _++_ (f p refl) e
 
   same-texts : (seen : ℕ) (is : List Placed) → seen + length (tagsOf is) ≤ length ts
-      → packTexts set (ts ++ rest) (packsOf set seen is) ≡ packTexts set ts (packsOf set seen is)
+      → textsOf set (ts ++ rest) (packsOf set seen is) ≡ textsOf set ts (packsOf set seen is)
   same-texts seen [] h = refl
   same-texts seen (i ∷ is) h =
       let l = length-append (pushed (i .item)) (tagsOf is) in
@@ -73,7 +67,7 @@ module _ (set ts rest : List ℕ) where
 
 -- ---- all of it
 every-text : (set tags : List ℕ) → length tags ≡ maxTags
-    → loopText (length (printedPacks set maxTags)) set (leftTags set tags) none ≡ packTexts set (tagsOf (itemsOf set)) (printedPacks set maxTags)
+    → loopText (length (printedPacks set maxTags)) set (leftTags set tags) none ≡ textsOf set (tagsOf (itemsOf set)) (printedPacks set maxTags)
 every-text set tags long =
     let all = packsOf set 0 (itemsOf set) in
     let ts = tagsOf (itemsOf set) in

@@ -53,20 +53,22 @@ packCount (Refused r) = 0
 abbrev pub leftTags : List ℕ → List ℕ → List ℕ
 leftTags set tags = pick (isTooBig set) tags (leaves (setAnswer set (length tags)) (tagsOf (itemsOf set)) tags)
 
--- ---- the packs' own texts
-abbrev pub packTexts : List ℕ → List ℕ → List PackPlace → List ℕ
-packTexts set tags [] = []
-packTexts set tags (p ∷ ps) =
-    packText set tags p (readAnswer (bytesOf set p) maxRows maxSlots maxSlots) ++ packTexts set tags ps
+-- ---- the packs' own texts, where the reader is lent rooms for so many
+abbrev pub textOf : List ℕ → List ℕ → PackPlace → List ℕ
+textOf set tags p = packText set tags p (readAnswer (bytesOf set p) maxRows maxSlots maxSlots)
+
+abbrev pub textsOf : List ℕ → List ℕ → List PackPlace → List ℕ
+textsOf set tags [] = []
+textsOf set tags (p ∷ ps) = textOf set tags p ++ textsOf set tags ps
 
 -- ---- all of it
 unfoldable pub printed : List ℕ → List ℕ
-printed set = firstLine set maxTags ++ packTexts set (tagsOf (itemsOf set)) (printedPacks set maxTags)
+printed set = firstLine set maxTags ++ textsOf set (tagsOf (itemsOf set)) (printedPacks set maxTags)
 
--- what a loop of so many turns writes, from pack to pack by the tag list that it was lent
+-- ---- what a loop of so many turns writes, from one pack to the next
 abbrev pub behindText : List ℕ → List ℕ → NextPack → (PackPlace → List ℕ) → List ℕ
 behindText set tags Nothing rest = []
-behindText set tags (Pack p) rest = packText set tags p (readAnswer (bytesOf set p) maxRows maxSlots maxSlots) ++ rest p
+behindText set tags (Pack p) rest = textOf set tags p ++ rest p
 
 abbrev pub loopText : ℕ → List ℕ → List ℕ → PackPlace → List ℕ
 loopText zero set tags p = []
