@@ -5,20 +5,19 @@ use mathlib.Core.Bool.{false}
 use mathlib.Core.List.{List, _++_}
 use Prim.Native.Nat.{ℕ}
 use lib.ListN.{length}
-use Rattle.answers.specs.Lent.{leaves}
 use Rattle.answers.specs.Table.{Answer}
 use Rattle.answers.proofs.Next.{next-zero, next-passed}
 use Rattle.sets.specs.declared.set.SetAnswer.{SetAnswer}
 use Rattle.sets.specs.declared.set.SetAnswer.the-variants.{Done, Refused}
 use Rattle.sets.specs.Items.{itemsOf}
 use Rattle.sets.specs.Packs.{tagsOf, packsOf}
-use Rattle.sets.specs.Rules.{setRules, counts, setAnswer, setListed}
+use Rattle.sets.specs.Rules.{setRules, counts, setAnswer, setListed, leftTags}
 use Rattle.sets.specs.Handed.{takenPacks}
 use Rattle.sets.proofs.Taken.{taken-packs, refused-packs}
 use Rattle.text.specs.Text.{newline}
 use Rattle.text.specs.Put.{Put}
 use Rattle.packs.specs.Lines.{setText}
-use Rattle.packs.specs.Printed.{isTooBig, firstLine, packCount, printedPacks, leftTags}
+use Rattle.packs.specs.Printed.{isTooBig, firstLine, packCount, printedPacks, tagsLeft}
 
 module _ (set : List ℕ) (room : ℕ) where
   -- by the answer that is done
@@ -37,8 +36,8 @@ module _ (set : List ℕ) (room : ℕ) where
 
 -- what is answered of a set that is not too big
 pub read-first : (set tags : List ℕ) → isTooBig set ≡ false → (r : SetAnswer) → setListed r ≡ setAnswer set (length tags)
-    → {tags′ : List ℕ} → tags′ ≡ leaves (setListed r) (tagsOf (itemsOf set)) tags → {n : ℕ} → n ≡ packCount r
+    → {tags′ : List ℕ} → tags′ ≡ leftTags (setListed r) set tags → {n : ℕ} → n ≡ packCount r
     → {at : ℕ} {l : List ℕ} {k : ℕ} {m : List ℕ} → Put (setText (setListed r) ++ newline) at l k m
-    → (n ≡ length (printedPacks set (length tags))) × Put (firstLine set (length tags)) at l k m × (tags′ ≡ leftTags set tags)
+    → (n ≡ length (printedPacks set (length tags))) × Put (firstLine set (length tags)) at l k m × (tags′ ≡ tagsLeft set tags)
 read-first set tags f r e t c p =
     rw f (c ∙ pack-count set (length tags) r e, rw e at p, rw e at t)

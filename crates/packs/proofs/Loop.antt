@@ -19,7 +19,7 @@ use Rattle.sets.specs.Packs.{pushed, tagsOf, packOf, before, packsOf, nth, next
 use Rattle.sets.specs.Parts.{partOf}
 use Rattle.sets.specs.Rules.{setAnswer}
 use Rattle.sets.proofs.Next.{pack-tells, next-nth}
-use Rattle.packs.specs.Printed.{maxTags, isTooBig, firstLine, printedPacks, leftTags, textOf, textsOf, behindText, loopText, none, printed, LoopPrints}
+use Rattle.packs.specs.Printed.{maxTags, isTooBig, firstLine, printedPacks, tagsLeft, textOf, textsOf, behindText, loopText, none, printed, LoopPrints}
 
 -- ---- from pack to pack
 loop-texts : (set tags : List ℕ) (ps : List PackPlace) (b : PackPlace) → nextPack set b ≡ nth 0 ps
@@ -67,7 +67,7 @@ module _ (set ts rest : List ℕ) where
 
 -- ---- all of it
 every-text : (set tags : List ℕ) → length tags ≡ maxTags
-    → loopText (length (printedPacks set maxTags)) set (leftTags set tags) none ≡ textsOf set (tagsOf (itemsOf set)) (printedPacks set maxTags)
+    → loopText (length (printedPacks set maxTags)) set (tagsLeft set tags) none ≡ textsOf set (tagsOf (itemsOf set)) (printedPacks set maxTags)
 every-text set tags long =
     let all = packsOf set 0 (itemsOf set) in
     let ts = tagsOf (itemsOf set) in

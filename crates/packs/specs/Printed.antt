@@ -5,7 +5,6 @@ use mathlib.Core.Bool.{Bool}
 use mathlib.Core.List.{List, [], _∷_, _++_}
 use lib.Dec.{ltb}
 use lib.ListN.{length}
-use Rattle.answers.specs.Lent.{leaves}
 use Rattle.answers.specs.Table.{pick}
 use Rattle.reader.specs.Rules.{readAnswer}
 use Rattle.sets.specs.declared.pack.PackPlace.{PackPlace}
@@ -15,7 +14,7 @@ use Rattle.sets.specs.declared.set.SetAnswer.{SetAnswer}
 use Rattle.sets.specs.declared.set.SetAnswer.the-variants.{Done, Refused}
 use Rattle.sets.specs.Items.{itemsOf}
 use Rattle.sets.specs.Packs.{tagsOf, place, nextPack}
-use Rattle.sets.specs.Rules.{setAnswer}
+use Rattle.sets.specs.Rules.{setAnswer, leftTags}
 use Rattle.sets.specs.Handed.{takenPacks}
 use Rattle.text.specs.Text.{newline}
 use Rattle.report.specs.Lines.{tooBigLine}
@@ -50,8 +49,8 @@ packCount (Done packs tags) = packs
 packCount (Refused r) = 0
 
 -- the tag list as it is left
-abbrev pub leftTags : List ℕ → List ℕ → List ℕ
-leftTags set tags = pick (isTooBig set) tags (leaves (setAnswer set (length tags)) (tagsOf (itemsOf set)) tags)
+abbrev pub tagsLeft : List ℕ → List ℕ → List ℕ
+tagsLeft set tags = pick (isTooBig set) tags (leftTags (setAnswer set (length tags)) set tags)
 
 -- ---- the packs' own texts, where the reader is lent rooms for so many
 abbrev pub textOf : List ℕ → List ℕ → PackPlace → List ℕ
@@ -82,7 +81,7 @@ none = place 0 0 0 0
 abbrev pub LoopPrints : Type 0
 LoopPrints =
     (set tags : List ℕ) → length tags ≡ maxTags
-    → firstLine set maxTags ++ loopText (length (printedPacks set maxTags)) set (leftTags set tags) none ≡ printed set
+    → firstLine set maxTags ++ loopText (length (printedPacks set maxTags)) set (tagsLeft set tags) none ≡ printed set
 
 -- the room for the text of a pack
 abbrev pub room : ℕ

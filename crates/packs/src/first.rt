@@ -10,7 +10,7 @@ ghost use lib.ListN.{length};
 ghost use Rattle.sets.specs.Rules.{setListed};
 ghost use Rattle.text.specs.Put.{Put};
 ghost use Rattle.packs.specs.Lines.{setText};
-ghost use Rattle.packs.specs.Printed.{isTooBig, firstLine, packCount, printedPacks, leftTags};
+ghost use Rattle.packs.specs.Printed.{isTooBig, firstLine, packCount, printedPacks, tagsLeft};
 
 // The most that is read.
 pub const MAX_BYTES: usize = 600_000;
@@ -57,7 +57,7 @@ fn count_of(answer: SetAnswer) -> usize
 pub fn put_first(set: &[u8], tags: &mut [u32], at: usize, out: &mut [u8]) -> Begun
     ensures { λ r. ⌜ (r .packs ≡ length (printedPacks (now (set .entry)) (length (now (tags .entry)))))
         × Put (firstLine (now (set .entry)) (length (now (tags .entry)))) at (now (out .entry)) (r .behind) (now (out .exit))
-        × (now (tags .exit) ≡ leftTags (now (set .entry)) (now (tags .entry))) ⌝ }
+        × (now (tags .exit) ≡ tagsLeft (now (set .entry)) (now (tags .entry))) ⌝ }
 {
     if is_too_big(set) {
         let behind = put_text(b"too big for this program\n", at, out);

@@ -1,7 +1,7 @@
 -- Computed: what the definitions say of small sets.
 -- Assumes nothing.
 use mathlib.Core.Path.{_≡_, refl}
-use mathlib.Core.List.{List, [], _∷_, _++_}
+use mathlib.Core.List.{List, [], _∷_}
 use Prim.Native.Nat.{ℕ}
 use Rattle.answers.specs.Table.{answer, short, wholes}
 use Rattle.numbers.specs.BerOid.{oidRead, oidReadStrict}

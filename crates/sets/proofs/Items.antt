@@ -1,12 +1,12 @@
 -- The items of a set: an item that is read lies behind its place and within the set, and what comes behind it starts where
 -- it ends.
 -- Assumes nothing.
-use mathlib.Core.Path.{_≡_, refl, sym, ap, _∙_}
+use mathlib.Core.Path.{_≡_, refl, ap, _∙_}
 use mathlib.Core.List.{List, [], _∷_}
 use Prim.Native.Nat.{ℕ, zero, suc, _+_, _-_, _≤_, _<_}
 use native.Mathlib.Omega.{arith}
-use lib.Dec.{leb, ltb}
-use lib.ListN.{length, drop, length-drop}
+use lib.Dec.{leb}
+use lib.ListN.{length, drop}
 use borrow.Author.Tests.{le-leb, lt-leb, leb-false, ltb-false}
 use Rattle.answers.proofs.Rules.{picked, by-bool}
 use Rattle.numbers.specs.declared.ber_oid.BerOid.{BerOid}

@@ -20,7 +20,7 @@ use Rattle.sets.specs.declared.pack.NextPack.{NextPack}
 use Rattle.sets.specs.declared.pack.NextPack.the-variants.{Pack, Nothing}
 use Rattle.sets.specs.Tags.{packTag, isPushed, tagCount}
 use Rattle.sets.specs.Parts.{partOf}
-use Rattle.sets.specs.Items.{itemAt, itemsFrom, itemsOf}
+use Rattle.sets.specs.Items.{itemAt, itemsFrom}
 use Rattle.sets.specs.Packs.{sizedPack, place, packIn, before, packsOf, nth, nextPack}
 use Rattle.sets.proofs.Items.{item-tells, items-none, items-faulty, items-read}
 use Rattle.sets.proofs.Walk.{pushed-count, one}

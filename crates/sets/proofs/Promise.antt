@@ -23,9 +23,9 @@ use Rattle.sets.specs.declared.pack.NextPack.the-variants.{Pack, Nothing
 use Rattle.sets.specs.Tags.{packTag}
 use Rattle.sets.specs.Parts.{partOf}
 use Rattle.sets.specs.Items.{Placed, placed, itemsOf}
-use Rattle.sets.specs.Packs.{pushed, tagsOf, packsOf, place, nth, nextPack}
+use Rattle.sets.specs.Packs.{pushed, tagsOf, packsOf, nth}
 use Rattle.sets.specs.Rules.{setRules, counts, setAnswer}
-use Rattle.sets.specs.Handed.{takenPacks, packAt, bytesBy, tagsBy, bytesAt, tagsAt}
+use Rattle.sets.specs.Handed.{takenPacks, packAt, bytesBy, tagsBy}
 use Rattle.sets.specs.Taken.{lastOf, HandedBack, Taken, NotTaken, Sets}
 use Rattle.sets.proofs.Next.{next-nth}
 use Rattle.sets.proofs.Taken.{taken-packs, tags-held}

@@ -1,19 +1,17 @@
 -- A set that is taken: it has its packs, and room for its tags.
 -- Assumes nothing.
-use mathlib.Core.Path.{_≡_, refl, sym, ap, _∙_}
+use mathlib.Core.Path.{_≡_}
 use mathlib.Core.List.{List, [], _∷_}
 use Prim.Native.Nat.{ℕ, _+_, _≤_}
 use native.Mathlib.Omega.{arith}
-use lib.Dec.{eqb}
 use lib.ListN.{length, length-append}
-use Rattle.answers.specs.Table.{Answer, pick}
 use Rattle.answers.specs.Listed.{listed}
 use Rattle.answers.specs.declared.Refusal.{Refusal}
 use Rattle.answers.proofs.Next.{next-zero}
 use Rattle.answers.proofs.OneToOne.{refused-not-done}
 use Rattle.sets.specs.declared.item.Item.{Item}
 use Rattle.sets.specs.declared.item.Item.the-variants.{Read, Faulty}
-use Rattle.sets.specs.Items.{Placed, placed, itemsOf}
+use Rattle.sets.specs.Items.{Placed, itemsOf}
 use Rattle.sets.specs.Packs.{pushed, tagsOf, packsOf}
 use Rattle.sets.specs.Rules.{itemRules, packRule, roomRule, setRules, counts, setAnswer}
 use Rattle.sets.specs.Handed.{takenPacks}

@@ -1,17 +1,17 @@
 -- A walk that decides a set: what it has counted up to a place, and what is left of the rules.
 -- Assumes nothing.
-use mathlib.Core.Path.{_≡_, refl, sym, ap, _∙_}
+use mathlib.Core.Path.{_≡_, refl, _∙_}
 use mathlib.Core.Bool.{Bool, true, false, _&&_}
-use mathlib.Core.List.{List, [], _∷_, _++_}
+use mathlib.Core.List.{List, [], _∷_}
 use Prim.Native.Nat.{ℕ, suc, _+_, _≤_, _<_}
 use native.Mathlib.Omega.{arith}
 use lib.Dec.{eqb, leb}
 use borrow.Author.Tests.{leb-false}
 use lib.ListN.{length, length-append}
-use Rattle.answers.specs.Table.{Answer, answer, wholes, pick, passes, next}
+use Rattle.answers.specs.Table.{answer, wholes, pick, passes, next}
 use Rattle.answers.specs.Listed.{listed}
 use Rattle.answers.specs.declared.Refusal.{Refusal}
-use Rattle.answers.proofs.Rules.{picked, by-bool}
+use Rattle.answers.proofs.Rules.{by-bool}
 use Rattle.answers.proofs.Next.{next-zero}
 use Rattle.answers.proofs.OneToOne.{refused-not-done}
 use Rattle.layout.specs.declared.size.Peek.{Peek}

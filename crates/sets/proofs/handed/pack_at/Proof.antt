@@ -10,7 +10,7 @@ use Rattle.sets.specs.declared.pack.PackPlace.{PackPlace}
 use Rattle.sets.specs.Items.{itemsOf}
 use Rattle.sets.specs.Packs.{packsOf, nth, nextPack}
 use Rattle.sets.specs.Rules.{setListed}
-use Rattle.sets.specs.Handed.{takenPacks, packAt}
+use Rattle.sets.specs.Handed.{packAt}
 use Rattle.sets.proofs.Next.{nth-none, next-nth}
 use Rattle.sets.proofs.Taken.{taken-packs, refused-packs}
 use Rattle.sets.proofs.handed.pack_at.Statement.{statement}

@@ -1,6 +1,5 @@
 -- `set::check_pack` meets its contract.
 -- Assumes nothing.
-use mathlib.Core.Path.{sym, _∙_}
 use borrow.Author.Needs.{needs}
 use Rattle.sets.proofs.set.check_pack.Statement.{statement}
 use Rattle.sets.proofs.set.check_pack.Tie as tie
