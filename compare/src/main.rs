@@ -13,7 +13,7 @@ mod klv {
     include!(concat!(env!("OUT_DIR"), "/klv.rs"));
 }
 
-use kinds::{has_other_power, hex, print, reasons, Case, Kind, KINDS};
+use kinds::{has_other_power, hex, print, reasons, set_printed, Case, Kind, KINDS};
 use program::written;
 use random::Random;
 use std::env;
@@ -132,21 +132,33 @@ fn three_bytes(program: &[String]) -> io::Result<ExitCode> {
     Ok(ExitCode::from(u8::from(differ > 0)))
 }
 
-// What the program of this name prints of a pack.
-fn printed_by(name: &str) -> io::Result<fn(&[u8]) -> String> {
-    match name {
-        "sdcc" => Ok(print::printed),
-        "why" => Ok(reasons::printed),
-        _ => Err(io::Error::other(
-            "the programs that are run are sdcc and why",
-        )),
-    }
+// A program, by what it prints of an input, and by what it is given.
+struct Program {
+    printed: fn(&[u8]) -> String,
+    inputs: fn(&mut Random) -> Vec<print::Input>,
 }
 
-// A program that prints what it has to say of a pack, run on one after the other.
+fn named(name: &str) -> io::Result<Program> {
+    let (printed, inputs): (fn(&[u8]) -> String, fn(&mut Random) -> _) = match name {
+        "sdcc" => (print::printed, print::inputs),
+        "why" => (reasons::printed, print::inputs),
+        "set" => (set_printed::printed, set_printed::inputs),
+        _ => {
+            return Err(io::Error::other(
+                "the programs that are run are sdcc, why and set",
+            ))
+        }
+    };
+    Ok(Program { printed, inputs })
+}
+
+// A program that prints what it has to say of an input, run on one after the other.
 fn runs(name: &str, seed: u64, program: &[String]) -> io::Result<ExitCode> {
-    let printed_of = printed_by(name)?;
-    let inputs = print::inputs(&mut Random::new(seed));
+    let Program {
+        printed: printed_of,
+        inputs,
+    } = named(name)?;
+    let inputs = inputs(&mut Random::new(seed));
     let mut differ = 0;
     for input in &inputs {
         let expected = printed_of(&input.bytes);

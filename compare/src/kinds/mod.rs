@@ -24,6 +24,7 @@ mod read_in;
 pub mod reasons;
 mod rules;
 mod set;
+pub mod set_printed;
 mod sets;
 mod sets_at_limits;
 mod short;

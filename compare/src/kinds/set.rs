@@ -18,15 +18,15 @@ pub const KIND: Kind = Kind {
 };
 
 // A pack's place in the set, and that of the tags that it refines in their list.
-struct Captured {
-    value: Range<usize>,
-    tags: Range<usize>,
+pub(super) struct Captured {
+    pub(super) value: Range<usize>,
+    pub(super) tags: Range<usize>,
 }
 
 // What was seen of a set.
-struct Seen {
-    packs: Vec<Captured>,
-    tags: Vec<u32>,
+pub(super) struct Seen {
+    pub(super) packs: Vec<Captured>,
+    pub(super) tags: Vec<u32>,
 }
 
 impl Seen {
@@ -72,7 +72,7 @@ fn item(bytes: &[u8], at: usize) -> Option<(u32, Range<usize>)> {
 }
 
 // The refusals of an item are in document 02's order.
-fn walk(room: usize, bytes: &[u8]) -> Result<Seen, String> {
+pub(super) fn walk(room: usize, bytes: &[u8]) -> Result<Seen, String> {
     let mut seen = Seen {
         packs: Vec::new(),
         tags: Vec::new(),
