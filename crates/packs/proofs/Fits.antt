@@ -19,10 +19,10 @@ use Rattle.sets.specs.declared.pack.PackPlace.{PackPlace}
 use Rattle.sets.specs.declared.pack.NextPack.{NextPack}
 use Rattle.sets.specs.declared.pack.NextPack.the-variants.{Pack, Nothing}
 use Rattle.sets.specs.Items.{Placed, itemsFrom}
-use Rattle.sets.specs.Packs.{pushed, packOf, packsOf, nth, nextPack, before}
+use Rattle.sets.specs.Packs.{pushed, packsOf, nth, nextPack}
 use Rattle.sets.specs.Parts.{partOf}
 use Rattle.sets.specs.Rules.{peekRule, itemRules, setRules, setAnswer}
-use Rattle.sets.proofs.Next.{pack-tells}
+use Rattle.sets.proofs.Given.{among}
 use Rattle.reader.specs.Rules.{readAnswer}
 use Rattle.text.specs.Text.{ascii, newline}
 use Rattle.lines.specs.Lines.{numbers}
@@ -105,25 +105,13 @@ pub record FewTags (p : PackPlace) : Type 0 where
   pub refined : p .to ≤ p .from + maxRows
 
 module _ (set : List ℕ) where
-  item-few : (seen : ℕ) (i : Item) {p : PackPlace} → packOf set seen i ≡ Pack p → FewTags p
-  item-few seen Faulty h = let z : _≡_ {A = ℕ} 0 1 = cc in absurd (omega arith)
-  item-few seen (Read tag start end) h =
-      let f = pack-tells set seen tag start end h in
-      let s = peek-size (partOf start end set) (f .n) .0 (f .size) in
-      let w = fit-within (partOf start end set) (ap (λ (a : Answer). a .number) (s .0)) .rows in
-      record { refined = omega (arith, f .to, f .from, s .1, w) }
-
-  -- an item's own, or the first behind it
-  either-few : {p : PackPlace} (ps : List PackPlace) (own : NextPack) → (own ≡ Pack p → FewTags p) → (nth 0 ps ≡ Pack p → FewTags p)
-      → nth 0 (before own ps) ≡ Pack p → FewTags p
-  either-few ps Nothing a b h = b h
-  either-few ps (Pack q) a b h = a h
-
   first-few : (seen : ℕ) (is : List Placed) {p : PackPlace} → nth 0 (packsOf set seen is) ≡ Pack p → FewTags p
-  first-few seen [] h = let z : _≡_ {A = ℕ} 0 1 = cc in absurd (omega arith)
-  first-few seen (i ∷ is) h =
-      let more = seen + length (pushed (i .item)) in
-      either-few (packsOf set more is) (packOf set seen (i .item)) (λ e. item-few seen (i .item) e) (λ e. first-few more is e) h
+  first-few seen is h =
+      let a = among set is seen 0 h in
+      let f = a .found in
+      let s = peek-size (partOf (a .start) (a .end) set) (f .n) .0 (f .size) in
+      let w = fit-within (partOf (a .start) (a .end) set) (ap (λ (x : Answer). x .number) (s .0)) .rows in
+      record { refined = omega (arith, f .to, f .from, s .1, w) }
 
   next-few : (b : PackPlace) {p : PackPlace} → nextPack set b ≡ Pack p → FewTags p
   next-few b {p} =

@@ -2,11 +2,12 @@
 -- Assumes nothing.
 use mathlib.Core.Path.{_≡_, refl, ap, ap₂, _∙_}
 use mathlib.Core.List.{List, [], _∷_, _++_}
-use Prim.Native.Nat.{ℕ, zero, suc, _+_, _-_, _≤_}
+use Prim.Native.Nat.{ℕ, suc, _+_, _-_, _≤_}
 use native.Mathlib.Omega.{arith}
 use borrow.Author.Tests.{le-ltb}
 use lib.Dec.{eqb}
-use lib.ListN.{length, take, drop, length-append}
+use lib.ListN.{length, drop, length-append, length-drop}
+use lib.Seq.{drop-append-le, take-append-le}
 use Rattle.answers.specs.Lent.{over}
 use Rattle.answers.proofs.Rules.{by-bool}
 use Rattle.sets.specs.declared.item.Item.{Item}
@@ -31,17 +32,11 @@ loop-texts set tags (p ∷ ps) b e h =
     ∙ ap (λ (t : List ℕ). textOf set tags p ++ t) (loop-texts set tags ps p (h 0 p refl) (λ j q k. h (suc j) q k))
 
 -- ---- what stands behind the set's tags in the list is never read
-part-front : (ts rest : List ℕ) (from k : ℕ) → from + k ≤ length ts → take k (drop from (ts ++ rest)) ≡ take k (drop from ts)
-part-front [] rest from k h = let e : k ≡ 0 = omega arith in rw e
-part-front (t ∷ ts) rest zero zero h = refl
-part-front (t ∷ ts) rest zero (suc k) h = ap (λ (l : List ℕ). t ∷ l) (part-front ts rest 0 k (omega arith))
-part-front (t ∷ ts) rest (suc from) k h = part-front ts rest from k (omega arith)
-
 module _ (set ts rest : List ℕ) where
   tags-front : (p : PackPlace) → p .from ≤ p .to → p .to ≤ length ts → partOf (p .from) (p .to) (ts ++ rest) ≡ partOf (p .from) (p .to) ts
   tags-front p f h =
       rw (le-ltb (length (ts ++ rest)) (p .to) (omega (arith, length-append ts rest)), le-ltb (length ts) (p .to) h)
-      (part-front ts rest (p .from) (p .to - p .from) (omega arith))
+      (rw (drop-append-le (p .from) ts rest (omega arith)) (take-append-le (p .to - p .from) (drop (p .from) ts) rest (simp length-drop (omega arith))))
 
   -- a pack's part ends where the tags seen before it do
   item-text : (seen : ℕ) (i : Item) (p : PackPlace) → packOf set seen i ≡ Pack p → seen ≤ length ts → textOf set (ts ++ rest) p ≡ textOf set ts p

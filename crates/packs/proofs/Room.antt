@@ -1,7 +1,7 @@
 -- A tag list with an entry for each two bytes of the set is never full.
 -- Assumes nothing.
 use mathlib.Core.Path.{_≡_, refl, ap, ap₂}
-use mathlib.Core.Bool.{Bool, true, false, _&&_}
+use mathlib.Core.Bool.{false, and-false}
 use mathlib.Core.List.{List, [], _∷_, _++_}
 use Prim.Native.Nat.{ℕ, zero, suc, _+_, _-_, _*_, _≤_}
 use native.Mathlib.Omega.{arith}
@@ -17,12 +17,13 @@ use Rattle.sets.specs.Packs.{pushed, tagsOf}
 use Rattle.sets.specs.Rules.{packRule, roomRule, itemRules, setRules, setAnswer}
 use Rattle.sets.specs.Tags.{isPushed}
 use Rattle.sets.proofs.Items.{item-tells}
+use Rattle.sets.proofs.Walk.{pushed-count, one}
 use Rattle.packs.specs.Printed.{maxBytes, maxTags, isTooBig}
 
 -- ---- a tag takes two bytes at least
 one-pushed : (i : Item) → length (pushed i) ≤ 1
 one-pushed Faulty = omega arith
-one-pushed (Read tag start end) = picked (λ (ts : List ℕ). length ts ≤ 1) (isPushed tag) _ _ (λ _. omega arith) (λ _. omega arith)
+one-pushed (Read tag start end) = rw (pushed-count tag start end) (one (isPushed tag))
 
 module _ (set : List ℕ) where
   -- those of an item and of what comes behind it
@@ -43,10 +44,6 @@ module _ (set : List ℕ) where
 
 -- ---- where there is room for all of them, it does not matter how much
 module _ (set : List ℕ) (r s : ℕ) where
-  and-false : (b : Bool) → (b && false) ≡ false
-  and-false true = refl
-  and-false false = refl
-
   room-same : (seen tag start end : ℕ) → seen + length (pushed (Read tag start end)) ≤ r → seen + length (pushed (Read tag start end)) ≤ s
       → roomRule r seen tag ≡ roomRule s seen tag
   room-same seen tag start end h k =

@@ -1,15 +1,14 @@
 -- The rules of an item that was read, one after the other.
 -- Assumes nothing.
-use mathlib.Core.Path.{_≡_, refl, sym, ap}
-use mathlib.Core.Bool.{Bool, true, false, _&&_}
+use mathlib.Core.Path.{_≡_, refl}
+use mathlib.Core.Bool.{true, false, and-false}
 use mathlib.Core.List.{List, [], _∷_}
-use Prim.Native.Nat.{ℕ, suc, _+_, _<_}
+use Prim.Native.Nat.{ℕ, _+_, _<_}
 use native.Mathlib.Numerals.{add-one}
 use native.Mathlib.Omega.{arith}
 use lib.Dec.{leb}
 use borrow.Author.Tests.{ne-eqb, le-leb, lt-leb}
-use Rattle.answers.specs.Table.{Answer, answer, wholes, pick, passes, next}
-use Rattle.answers.proofs.Rules.{by-bool}
+use Rattle.answers.specs.Table.{Answer, answer, wholes, passes, next}
 use Rattle.layout.specs.declared.size.Peek.{Peek}
 use Rattle.layout.specs.declared.size.Peek.the-variants.{Size, Nothing}
 use Rattle.layout.specs.Size.{peeked}
@@ -17,13 +16,9 @@ use Rattle.sets.specs.Tags.{packTag, isPushed}
 use Rattle.sets.specs.Parts.{partOf}
 use Rattle.sets.specs.Rules.{peekRule, packRule, roomRule}
 
-none : (b : Bool) → (b && false) ≡ false
-none true = refl
-none false = refl
-
 -- a pack needs no room
 unpushed : (room seen : ℕ) → roomRule room seen packTag ≡ passes
-unpushed room seen = by-bool (leb room seen) (λ t. rw t) (λ f. rw f)
+unpushed room seen = rw (and-false (leb room seen))
 
 peek-alone : (r : Peek) → peekRule r ≡ next (peekRule r) passes
 peek-alone (Size n) = refl
@@ -44,4 +39,4 @@ module _ (set : List ℕ) (tag start end room seen : ℕ) where
     checks-full e p = rw (p, ne-eqb tag packTag other, e, le-leb room room (omega arith), add-one)
 
     pub checks-skip : isPushed tag ≡ false → passes ≡ Rules
-    checks-skip p = rw (p, ne-eqb tag packTag other) (sym (ap (λ (b : Bool). pick b (answer 5 (wholes (suc room ∷ room ∷ []))) passes) (none (leb room seen))))
+    checks-skip p = rw (p, ne-eqb tag packTag other, and-false (leb room seen))
