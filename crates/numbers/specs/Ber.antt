@@ -1,4 +1,4 @@
--- BER lengths: a byte below 128 is the length; otherwise it says, above 128, how many bytes of length follow, high first.
+-- BER lengths: a byte below 128 is the length; any other says, above 128, how many bytes of length follow, high first.
 use Prim.Native.Nat.{ℕ, suc, _%_, _≤_}
 use mathlib.Core.Path.{_≡_}
 use mathlib.Core.Bool.{_&&_, _||_}

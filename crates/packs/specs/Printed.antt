@@ -20,7 +20,7 @@ use Rattle.text.specs.Text.{newline}
 use Rattle.report.specs.Lines.{tooBigLine}
 use Rattle.packs.specs.Lines.{setText, bytesOf, packText}
 
--- the most that is read: so many bytes, whose tags are so many at most, and packs of so many rows, which have so many slots
+-- the most that is read: so many bytes, whose tags are so many at most, and packs of so many rows, with so many slots
 abbrev pub maxBytes : ℕ
 maxBytes = 600000
 

@@ -56,7 +56,8 @@ fn count_of(answer: SetAnswer) -> usize
 // The set is read, and its tags go into the list, unless it is too big.
 pub fn put_first(set: &[u8], tags: &mut [u32], at: usize, out: &mut [u8]) -> Begun
     ensures { λ r. ⌜ (r .packs ≡ length (printedPacks (now (set .entry)) (length (now (tags .entry)))))
-        × Put (firstLine (now (set .entry)) (length (now (tags .entry)))) at (now (out .entry)) (r .behind) (now (out .exit))
+        × Put (firstLine (now (set .entry)) (length (now (tags .entry))))
+        at (now (out .entry)) (r .behind) (now (out .exit))
         × (now (tags .exit) ≡ tagsLeft (now (set .entry)) (now (tags .entry))) ⌝ }
 {
     if is_too_big(set) {

@@ -1,4 +1,4 @@
--- What is promised of a set that is taken: its items join up, and the parts that are handed back are those of its packs.
+-- What is promised of a set that is taken: its items join up, and the parts that are handed back are its packs.
 use Prim.Native.Nat.{ℕ, suc, _+_, _-_, _≤_, _<_}
 use mathlib.Core.Path.{_≡_}
 use mathlib.Core.List.{List, [], _∷_, _++_}
@@ -59,7 +59,8 @@ pub record Taken (set lent : List ℕ) : Type 0 where
       → (bytesAt set (length lent) k ≡ []) × (tagsAt set (over (tagsOf (itemsOf set)) lent) k ≡ [])
   -- a cursor goes from the set's start to its first pack, and from pack to pack
   pub first : nextPack set (place 0 0 0 0) ≡ packAt set (length lent) 0
-  pub onward : (k : ℕ) (p : PackPlace) → packAt set (length lent) k ≡ Pack p → nextPack set p ≡ packAt set (length lent) (suc k)
+  pub onward : (k : ℕ) (p : PackPlace) → packAt set (length lent) k ≡ Pack p
+      → nextPack set p ≡ packAt set (length lent) (suc k)
 
 -- whatever is not taken hands back nothing
 pub record NotTaken (set lent : List ℕ) : Type 0 where

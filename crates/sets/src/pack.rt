@@ -42,8 +42,8 @@ fn last(n: u32, seen: usize) -> usize
     if seen < count { 0 } else { seen - count }
 }
 
-// The pack that an item's value is, with so many tags seen before it; none of an item that is no pack, or that peek does
-// not pass.
+// The pack that an item's value is, with so many tags seen before it; none where it is no pack, or peek does not pass
+// it.
 fn pack_in(set: &[u8], tag: u32, start: usize, end: usize, seen: usize) -> NextPack
     ensures { λ r. ⌜ r ≡ packIn (now (set .entry)) seen tag start end ⌝ }
 {
