@@ -9,9 +9,14 @@ use replies::set::of_place;
 use replies::set::of_set;
 use requests::limits::TAGS;
 use requests::request::Request;
+use sets::handed::pack_at;
+use sets::handed::pack_of;
+use sets::handed::tags_of;
 use sets::pack::NextPack;
 use sets::pack::PackPlace;
 use sets::pack::next_pack;
+use sets::part::pack_part;
+use sets::part::tags_part;
 use sets::set::SetAnswer;
 use sets::set::read_set;
 use shown::tags::TAG_MARK;
@@ -30,16 +35,51 @@ fn read(room: u64, set: &[u8], tags: &mut [u32]) -> SetAnswer {
     read_set(set, &mut tags[..lent])
 }
 
+// So many packs are asked for by their number too, which is a walk of its own each time.
+const BY_NUMBER: usize = 4;
+
+// Whether pack k is found at those places by its number, and its parts are as long as those there.
+fn is_numbered(k: usize, set: &[u8], tags: &[u32], place: PackPlace) -> bool {
+    let NextPack::Pack(found) = pack_at(set, tags.len(), k) else {
+        return false;
+    };
+    if found.start != place.start {
+        return false;
+    }
+    if found.from != place.from {
+        return false;
+    }
+    if pack_of(set, tags, k).len() != pack_part(set, place).len() {
+        return false;
+    }
+    tags_of(set, tags, k).len() == tags_part(tags, place).len()
+}
+
+// Pack k, behind the one before it. Where its number leads elsewhere it is left out, so that the answer shows it.
+fn pack_behind(k: usize, set: &[u8], tags: &[u32], before: PackPlace) -> NextPack {
+    let next = next_pack(set, before);
+    if BY_NUMBER <= k {
+        return next;
+    }
+    let NextPack::Pack(place) = next else {
+        return NextPack::Nothing;
+    };
+    if is_numbered(k, set, tags, place) {
+        return next;
+    }
+    NextPack::Nothing
+}
+
 // The places of the packs, so many, each behind a `;`.
-fn put_packs(count: usize, set: &[u8], at: usize, out: &mut [u8]) -> usize {
+fn put_packs(count: usize, set: &[u8], tags: &[u32], at: usize, out: &mut [u8]) -> usize {
     let mut next = at;
     let mut place = PackPlace::NONE;
-    let mut left = count;
-    while 0 < left {
-        left -= 1;
-        let NextPack::Pack(found) = next_pack(set, place) else {
+    let mut k: usize = 0;
+    while k < count {
+        let NextPack::Pack(found) = pack_behind(k, set, tags, place) else {
             return next;
         };
+        k += 1;
         place = found;
         next = flush_above(HELD, put_reply(of_place(place), next, out), out);
     }
@@ -82,7 +122,8 @@ fn put_behind(
         return put_touched(tags_changed(tags, 0, room), at, out);
     };
     let count = within_tags(stored, tags);
-    let placed = put_packs(packs, set, at, out);
+    let lent = within_tags(room as usize, tags);
+    let placed = put_packs(packs, set, &tags[..lent], at, out);
     let listed = put_tags(&tags[..count], placed, out);
     put_touched(tags_changed(tags, count, room), listed, out)
 }

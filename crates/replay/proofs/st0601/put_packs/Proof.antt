@@ -1,6 +1,7 @@
--- `st0601::put_packs` is safe and ends: each turn leaves one pack less, and the output keeps its length.
+-- `st0601::put_packs` is safe and ends: the packs are used up, and the output keeps its length.
 -- Assumes nothing.
 use mathlib.Core.Path.{_≡_, refl, _∙_}
+use Prim.Native.Nat.{_-_}
 use native.Mathlib.Omega.{arith}
 use borrow.Author.Needs.{needs}
 use lib.ListN.{length}
@@ -8,10 +9,10 @@ use Rattle.replay.proofs.st0601.put_packs.Statement.{statement}
 use Rattle.replay.proofs.st0601.put_packs.Tie as tie
 
 abbrev Inv-loop : tie.InvT-loop
-Inv-loop count set at out₀ next₀ place₀ left₀ out next place left = length out ≡ length out₀
+Inv-loop count set tags at out₀ next₀ place₀ k₀ out next place k = length out ≡ length out₀
 
 abbrev μ-loop : tie.MeasureT-loop
-μ-loop count set at out₀ next₀ place₀ left₀ out next place left = left
+μ-loop count set tags at out₀ next₀ place₀ k₀ out next place k = count - k
 
 same-length : tie.Need-same-length Inv-loop μ-loop
 same-length c = c .before .before .before .before .loop .inv
@@ -26,12 +27,12 @@ put-packs-spec =
     Inv-loop
     μ-loop
     (λ c. refl)
-    (λ c. omega arith)
     (λ c κs. tt)
     (λ c. search needs)
     (λ c. search needs)
     same-length
     (λ c. tt)
+    (λ c. omega arith)
     (λ c κs. tt)
     (λ c κs. tt)
     (λ c κs. tt)
