@@ -60,3 +60,19 @@ pub every : (ns : List ℕ) (P : Case ns → Type 0) → All ns P → (c : Case 
 every [] P h c = absurd c
 every (n ∷ ns) P h (inl t) = h .0 t
 every (n ∷ ns) P h (inr c) = every ns (λ c. P (inr c)) (h .1) c
+
+-- ---- in two runs, each short enough for a search: the first k cases, and those behind them
+abbrev pub First : (k : ℕ) (ns : List ℕ) → (Case ns → Type 0) → Type 0
+First zero ns P = Unit {0}
+First (suc k) [] P = Unit {0}
+First (suc k) (n ∷ ns) P = ((t : Tuple n) → P (inl t)) × First k ns (λ c. P (inr c))
+
+abbrev pub Behind : (k : ℕ) (ns : List ℕ) → (Case ns → Type 0) → Type 0
+Behind zero ns P = All ns P
+Behind (suc k) [] P = Unit {0}
+Behind (suc k) (n ∷ ns) P = Behind k ns (λ c. P (inr c))
+
+pub both : (k : ℕ) (ns : List ℕ) (P : Case ns → Type 0) → First k ns P → Behind k ns P → All ns P
+both zero ns P f b = b
+both (suc k) [] P f b = f
+both (suc k) (n ∷ ns) P f b = (f .0, both k ns (λ c. P (inr c)) (f .1) b)

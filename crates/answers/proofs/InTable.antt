@@ -20,6 +20,8 @@ use Rattle.answers.specs.declared.Refusal.the-variants.{
   NoDeviation,
   InvalidImapbParams,
   MalformedItem,
+  MalformedHeader,
+  Asymmetric,
 }
 
 pub in-done : (es : List Entry) → InTable (answer 0 es)
@@ -58,6 +60,12 @@ in-9 = inr (InvalidImapbParams, refl)
 pub in-10 : (offset : ℕ) → InTable (answer 10 (wholes (offset ∷ [])))
 in-10 offset = inr (MalformedItem offset, refl)
 
+pub in-11 : (offset : ℕ) → InTable (answer 11 (wholes (offset ∷ [])))
+in-11 offset = inr (MalformedHeader offset, refl)
+
+pub in-12 : (i j : ℕ) → InTable (answer 12 (wholes (i ∷ j ∷ [])))
+in-12 i j = inr (Asymmetric i j, refl)
+
 pub in-pick : (t : Bool) (a b : Answer) → InTable a → InTable b → InTable (pick t a b)
 in-pick true a b p q = p
 in-pick false a b p q = q
@@ -65,4 +73,4 @@ in-pick false a b p q = q
 pub in-next : (a b : Answer) → InTable a → InTable b → InTable (next a b)
 in-next a b p q = in-pick (eqb (a .number) 0) b a q p
 
-pub ruleset table = (in-done, in-1, in-2, in-3, in-3-bits, in-4, in-5, in-6, in-7, in-8, in-9, in-10, in-pick, in-next)
+pub ruleset table = (in-done, in-1, in-2, in-3, in-3-bits, in-4, in-5, in-6, in-7, in-8, in-9, in-10, in-11, in-12, in-pick, in-next)

@@ -15,18 +15,21 @@ use Rattle.answers.specs.declared.Written.the-variants.{Done, Refused}
 use Rattle.answers.specs.Table.{Entry, whole, bits64, Answer, passes}
 use Rattle.answers.specs.Listed.{listed, written, checked}
 use Rattle.answers.proofs.Refusal.{parts, as-values, make, eta}
-use Rattle.answers.proofs.Cases.{counts, Case, place, values, same-case, All, every}
+use Rattle.answers.proofs.Cases.{counts, Case, place, values, same-case, First, Behind, both, every}
 
-abbrev cases : List ℕ
+abbrev pub cases : List ℕ
 cases = counts parts
 
--- two readings of a refusal agree where they agree on each case
-pub of-each : {X : Type 0} (f g : Refusal → X) → All cases (λ c. f (make c) ≡ g (make c)) → (r : Refusal) → f r ≡ g r
-of-each f g h r = rw (← (eta r)) (every cases (λ (c : Case cases). f (make c) ≡ g (make c)) h (as-values r))
+-- two readings of a refusal agree where they agree on each case: on the first seven, and on those behind
+abbrev pub Agree : {X : Type 0} → (Refusal → X) → (Refusal → X) → Case cases → Type 0
+Agree f g c = f (make c) ≡ g (make c)
+
+pub of-each : {X : Type 0} (f g : Refusal → X) → First 7 cases (Agree f g) → Behind 7 cases (Agree f g) → (r : Refusal) → f r ≡ g r
+of-each f g h k r = rw (← (eta r)) (every cases (Agree f g) (both 7 cases (Agree f g) h k) (as-values r))
 
 -- no refusal is done
 pub refused-not-done : (r : Refusal) → eqb (listed r .number) 0 ≡ false
-refused-not-done = of-each (λ r. eqb (listed r .number) 0) (λ r. false) (search depth 12)
+refused-not-done = of-each (λ r. eqb (listed r .number) 0) (λ r. false) (search depth 8) (search depth 8)
 
 -- the case's place in the enum, read off the answer: row 3 stands there twice, for whole numbers and for binary64
 abbrev shift : Bool → List Entry → ℕ → ℕ
@@ -39,7 +42,7 @@ abbrev rank : Answer → ℕ
 rank a = shift (ltb 3 (a .number)) (a .carries) (a .number)
 
 placed : (r : Refusal) → rank (listed r) ≡ place cases (as-values r)
-placed = of-each (λ r. rank (listed r)) (λ r. place cases (as-values r)) (search depth 12)
+placed = of-each (λ r. rank (listed r)) (λ r. place cases (as-values r)) (search depth 8) (search depth 8)
 
 -- its numbers
 abbrev plain : Entry → ℕ
@@ -51,7 +54,7 @@ plains [] = []
 plains (e ∷ es) = plain e ∷ plains es
 
 valued : (r : Refusal) → plains (listed r .carries) ≡ values cases (as-values r)
-valued = of-each (λ r. plains (listed r .carries)) (λ r. values cases (as-values r)) (search depth 12)
+valued = of-each (λ r. plains (listed r .carries)) (λ r. values cases (as-values r)) (search depth 8) (search depth 8)
 
 pub listed-one : (r s : Refusal) → listed r ≡ listed s → r ≡ s
 listed-one r s e =

@@ -7,4 +7,4 @@ use Rattle.answers.specs.Row.{rowOf, listedRow}
 use Rattle.answers.proofs.OneToOne.{of-each}
 
 pub row-lists : (r : Refusal) → listedRow (rowOf r) ≡ listed r
-row-lists = of-each (λ r. listedRow (rowOf r)) listed (search depth 12)
+row-lists = of-each (λ r. listedRow (rowOf r)) listed (search depth 8) (search depth 8)

@@ -15,6 +15,8 @@ use Rattle.answers.specs.declared.Refusal.the-variants.{
   NoDeviation,
   InvalidImapbParams,
   MalformedItem,
+  MalformedHeader,
+  Asymmetric,
 }
 use Rattle.answers.specs.declared.Check.{Check}
 use Rattle.answers.specs.declared.Check.the-variants as check
@@ -34,6 +36,8 @@ listed (NoSuchCell i j) = answer 7 (wholes (i ∷ j ∷ []))
 listed (NoDeviation row) = answer 8 (wholes (row ∷ []))
 listed InvalidImapbParams = answer 9 []
 listed (MalformedItem offset) = answer 10 (wholes (offset ∷ []))
+listed (MalformedHeader offset) = answer 11 (wholes (offset ∷ []))
+listed (Asymmetric i j) = answer 12 (wholes (i ∷ j ∷ []))
 
 abbrev pub written : Written → Answer
 written (Done n) = answer 0 (wholes (n ∷ []))

@@ -1,7 +1,7 @@
 //! Document 01's table of answers: the refusals, and the answer of whatever writes into lent memory.
 pub mod row;
 
-// Rows 1 to 10, in the table's order. A binary64 is carried as its bits, so that a refused NaN comes back bit for bit.
+// Rows 1 to 12, in the table's order. A binary64 is carried as its bits, so that a refused NaN comes back bit for bit.
 pub enum Refusal {
     // 1, in bytes
     TruncatedField { needed: usize, got: usize },
@@ -25,6 +25,10 @@ pub enum Refusal {
     InvalidImapbParams,
     // 10: the item of a set that starts there can't be read
     MalformedItem { offset: usize },
+    // 11: the header of a .npy file breaks there
+    MalformedHeader { offset: usize },
+    // 12: a matrix whose entries (i, j) and (j, i) differ
+    Asymmetric { i: u64, j: u64 },
 }
 
 // What a rule, or a run of rules, answers.

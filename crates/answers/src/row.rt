@@ -36,6 +36,8 @@ pub fn row_of(refusal: Refusal) -> Row
         Refusal::NoDeviation { row } => whole_row(8, 1, [row as u64, 0, 0]),
         Refusal::InvalidImapbParams => whole_row(9, 0, [0, 0, 0]),
         Refusal::MalformedItem { offset } => whole_row(10, 1, [offset as u64, 0, 0]),
+        Refusal::MalformedHeader { offset } => whole_row(11, 1, [offset as u64, 0, 0]),
+        Refusal::Asymmetric { i, j } => whole_row(12, 2, [i, j, 0]),
     }
 }
 

@@ -1,6 +1,7 @@
 pub mod Bits
 pub mod Digits
 pub mod Bytes
+pub mod Low
 pub mod BerOid
 pub mod Lengths
 pub mod Closest

@@ -8,6 +8,8 @@ use Rattle.answers.proofs.OneToOne.{writer-one}
 use Rattle.numbers.specs.BerOid.{oidBytes}
 use Rattle.numbers.proofs.words.read_be.Reads as read-be
 use Rattle.numbers.proofs.words.write_be.Reads as write-be
+use Rattle.numbers.proofs.words.read_le.Reads as read-le
+use Rattle.numbers.proofs.words.write_le.Reads as write-le
 use Rattle.numbers.proofs.ber_oid.read_ber_oid.Reads as read-ber-oid
 use Rattle.numbers.proofs.ber_oid.read_ber_oid_strict.Reads as read-ber-oid-strict
 use Rattle.numbers.proofs.ber_oid.ber_oid_len.Reads as ber-oid-len
@@ -21,6 +23,9 @@ use Rattle.numbers.proofs.conversions.whole_part.Reads as whole-part
 
 pub read-be-one : OneResult read-be.Learnt
 read-be-one κs a r r′ s s′ p q = p ∙ sym q
+
+pub read-le-one : OneResult read-le.Learnt
+read-le-one κs a r r′ s s′ p q = p ∙ sym q
 
 pub ber-oid-len-one : OneResult ber-oid-len.Learnt
 ber-oid-len-one κs a r r′ s s′ p q = p ∙ sym q
@@ -39,6 +44,9 @@ read-ber-strict-one κs a r r′ s s′ p q = p ∙ sym q
 
 pub write-be-one : OneAnswer write-be.Learnt (λ κs s. now (s .1 .0))
 write-be-one κs a r r′ s s′ p q = (refl, p ∙ sym q)
+
+pub write-le-one : OneAnswer write-le.Learnt (λ κs s. now (s .1 .0))
+write-le-one κs a r r′ s s′ p q = (refl, p ∙ sym q)
 
 pub write-ber-oid-one : OneAnswer write-ber-oid.Learnt (λ κs s. now (s .1 .0))
 write-ber-oid-one κs a r r′ s s′ p q = writer-one (λ x. leaves x (oidBytes (a .0)) (now (a .1 .0))) r r′ p q

@@ -1,4 +1,4 @@
-//! BER-OID numbers, BER lengths, big-endian words, and conversions between binary32, binary64 and whole numbers.
+//! BER-OID numbers, BER lengths, words of bytes, and conversions between binary32, binary64 and whole numbers.
 pub mod ber;
 pub mod ber_oid;
 pub mod conversions;

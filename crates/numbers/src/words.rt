@@ -1,7 +1,7 @@
-//! Whole numbers as bytes, high byte first.
+//! Whole numbers as bytes, high byte first and low byte first.
 ghost use mathlib.Core.Path.{_≡_};
 ghost use lib.ListN.{length};
-ghost use Rattle.numbers.specs.Words.{wordOf, bytesOf};
+ghost use Rattle.numbers.specs.Words.{wordOf, bytesOf, lowWordOf, lowBytesOf};
 
 // The number that the bytes spell. Of more than eight bytes the last eight count.
 pub fn read_be(bytes: &[u8]) -> u64
@@ -26,5 +26,31 @@ pub fn write_be(value: u64, part: &mut [u8])
         i -= 1;
         part[i] = (left % 256) as u8;
         left = left / 256;
+    }
+}
+
+// Low byte first. Of more than eight bytes the first eight count.
+pub fn read_le(bytes: &[u8]) -> u64
+    ensures { λ r. ⌜ r ≡ lowWordOf (now (bytes .entry)) ⌝ }
+{
+    let mut value: u64 = 0;
+    let mut i = bytes.len();
+    while 0 < i {
+        i -= 1;
+        value = value % 0x100_0000_0000_0000 * 256 + crate::wide(bytes[i]);
+    }
+    value
+}
+
+// The value's low bytes, low byte first, as many as the part has.
+pub fn write_le(value: u64, part: &mut [u8])
+    ensures { λ _. ⌜ now (part .exit) ≡ lowBytesOf (length (now (part .entry))) value ⌝ }
+{
+    let mut left = value;
+    let mut i: usize = 0;
+    while i < part.len() {
+        part[i] = (left % 256) as u8;
+        left = left / 256;
+        i += 1;
     }
 }

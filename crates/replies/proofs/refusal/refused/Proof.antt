@@ -12,7 +12,7 @@ use Rattle.replies.proofs.refusal.refused.Statement.{statement}
 use Rattle.replies.proofs.refusal.refused.Tie as tie
 
 row-count : (r : Refusal) → rowOf r .count ≤ 3
-row-count r = leb-true (rowOf r .count) 3 (of-each (λ r. leb (rowOf r .count) 3) (λ r. true) (search depth 12) r)
+row-count r = leb-true (rowOf r .count) 3 (of-each (λ r. leb (rowOf r .count) 3) (λ r. true) (search depth 8) (search depth 8) r)
 
 row-of-requires : tie.Need-row-of-requires
 row-of-requires c κs = search needs
