@@ -2,7 +2,7 @@
 use Prim.Native.Nat.{ℕ}
 use mathlib.Core.Bool.{Bool, true, false}
 use mathlib.Core.List.{List, [], _∷_}
-use lib.Dec.{eqb}
+use lib.Dec.{eqb, ltb}
 
 -- an entry keeps its kind: a whole number (N, a count, a row, a length, a payload), or the bits of a binary64
 pub data Entry : Type 0 where
@@ -44,3 +44,7 @@ passes = answer 0 []
 
 abbrev pub next : Answer → Answer → Answer
 next a b = pick (eqb (a .number) 0) b a
+
+-- less room than is needed: 5 with both
+abbrev pub roomRule : ℕ → ℕ → Answer
+roomRule needed room = pick (ltb room needed) (answer 5 (wholes (needed ∷ room ∷ []))) passes

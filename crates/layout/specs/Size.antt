@@ -20,6 +20,10 @@ maxRows = 256
 abbrev pub maxSlots : ℕ
 maxSlots = 32640
 
+-- N above the limit: 3 with N, 0 and the limit
+abbrev pub limitRule : ℕ → Answer
+limitRule n = pick (ltb maxRows n) (answer 3 (wholes (n ∷ 0 ∷ maxRows ∷ []))) passes
+
 -- c) to g), R being the bytes after Parse Control
 module _ (n R : ℕ) (c : ParseControl) where
   -- c) Slen=Clen=0: 2 with 0, 0
@@ -28,7 +32,7 @@ module _ (n R : ℕ) (c : ParseControl) where
 
   -- d) N>256: 3 with N, 0, 256
   abbrev pub ruleD : Answer
-  ruleD = pick (ltb maxRows n) (answer 3 (wholes (n ∷ 0 ∷ maxRows ∷ []))) passes
+  ruleD = limitRule n
 
   -- e) N·Slen>R: 1 with N·Slen and R
   abbrev pub ruleE : Answer

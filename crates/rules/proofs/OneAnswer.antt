@@ -14,6 +14,7 @@ use Rattle.rules.specs.Decided.{Ready, ready, decidedListed}
 use Rattle.rules.proofs.decide.decide.Reads as decide
 use Rattle.rules.proofs.judge.judge.Reads as judge
 use Rattle.rules.proofs.rooms.check_rooms.Reads as check-rooms
+use Rattle.rules.proofs.rooms.check_rooms_for.Reads as check-rooms-for
 
 -- what determines the listed answer determines the enum
 pub decided-one : (a b : Decided) → decidedListed a ≡ decidedListed b → a ≡ b
@@ -31,6 +32,9 @@ decide-one κs a r r′ s s′ p q = decided-one r r′ (p ∙ sym q)
 
 pub judge-one : OneResult judge.Learnt
 judge-one κs a r r′ s s′ p q = opened-one r r′ (p ∙ sym q)
+
+pub check-rooms-for-one : OneResult check-rooms-for.Learnt
+check-rooms-for-one κs a r r′ s s′ p q = checked-one r r′ (p ∙ sym q)
 
 pub check-rooms-one : OneResult check-rooms.Learnt
 check-rooms-one κs a r r′ s s′ p q = checked-one r r′ (p ∙ sym q)

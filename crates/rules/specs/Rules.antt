@@ -68,10 +68,14 @@ abbrev pub packRules : DeviationRange → List ℕ → Answer
 packRules range bytes =
     next (lentRule range) (next (fitRules bytes) (elementRules range bytes (headOf bytes)))
 
--- l) the first short buffer among deviations, correlations, states: 5
-abbrev pub roomRules : Head → ℕ → ℕ → ℕ → Answer
-roomRules h ds cs ss =
-    pick (ltb ds (deviationCount h)) (answer 5 (wholes (deviationCount h ∷ ds ∷ [])))
-    (pick (ltb cs (slotsOf (h .n))) (answer 5 (wholes (slotsOf (h .n) ∷ cs ∷ [])))
-    (pick (ltb ss (slotsOf (h .n))) (answer 5 (wholes (slotsOf (h .n) ∷ ss ∷ [])))
+-- the first short buffer among deviations, correlations, states, of which so many rows and slots are needed: 5
+abbrev pub roomsRule : ℕ → ℕ → ℕ → ℕ → ℕ → Answer
+roomsRule rows slots ds cs ss =
+    pick (ltb ds rows) (answer 5 (wholes (rows ∷ ds ∷ [])))
+    (pick (ltb cs slots) (answer 5 (wholes (slots ∷ cs ∷ [])))
+    (pick (ltb ss slots) (answer 5 (wholes (slots ∷ ss ∷ [])))
     passes))
+
+-- l) those of a pack
+abbrev pub roomRules : Head → ℕ → ℕ → ℕ → Answer
+roomRules h ds cs ss = roomsRule (deviationCount h) (slotsOf (h .n)) ds cs ss

@@ -4,7 +4,7 @@ use mathlib.Core.List.{List, [], _∷_}
 use Prim.Native.Nat.{ℕ, zero, suc, _+_, _-_, _*_}
 use lib.Dec.{eqb, ltb}
 use lib.ListN.{length}
-use Rattle.answers.specs.Table.{Answer, answer, short, wholes, passes, next}
+use Rattle.answers.specs.Table.{Answer, answer, short, wholes, passes, next, roomRule}
 use Rattle.answers.specs.Listed.{InTable}
 use Rattle.answers.proofs.InTable.{in-done, in-1, in-8, in-10, in-pick, in-next, table}
 use Rattle.numbers.specs.Words.{wordOf}
@@ -45,7 +45,6 @@ use Rattle.plan.specs.Places.{packPlan}
 use Rattle.writer.specs.Pack.{packBytes}
 use Rattle.trip.specs.Answered.{Answered}
 use Rattle.plan.specs.Rules.{countRules, rangeRules, planRules}
-use Rattle.slots.specs.Rules.{roomRule}
 
 -- each element, alone and in turn, and each correlation
 element-in : (bytes : List ℕ) (at size : ℕ) (format : Answer) → InTable format → InTable (elementRule bytes at size format)

@@ -7,14 +7,13 @@ use Prim.Native.Nat.{ℕ}
 use borrow.Author.Tests.{eqb-true, not-false}
 use lib.Dec.{eqb}
 use lib.ListN.{length, take}
-use Rattle.answers.specs.Table.{Answer, answer, wholes, next}
+use Rattle.answers.specs.Table.{Answer, answer, wholes, next, roomRule}
 use Rattle.answers.specs.Lent.{leaves}
 use Rattle.answers.proofs.Next.{next-zero, next-passed, Says, rules}
 use Rattle.layout.specs.Triangle.{slotsOf}
 use Rattle.plan.specs.Rules.{InRange, Supported}
 use Rattle.writer.specs.Pack.{isSparse, packBytes}
 use Rattle.plan.specs.Rules.{countRules, rangeRules}
-use Rattle.slots.specs.Rules.{roomRule}
 use Rattle.writer.specs.Rules.{writeAnswer}
 use Rattle.plan.proofs.Counts.{all-in}
 use Rattle.plan.proofs.Counts.{Counts, counts-tell}

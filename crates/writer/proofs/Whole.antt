@@ -8,7 +8,7 @@ use native.Mathlib.Omega.{arith}
 use borrow.Author.Tests.{eqb-true, ltb-false, le-ltb}
 use lib.Dec.{eqb, ltb}
 use lib.ListN.{length}
-use Rattle.answers.specs.Table.{Answer, answer, wholes, pick, passes, next}
+use Rattle.answers.specs.Table.{Answer, answer, wholes, pick, passes, next, roomRule}
 use Rattle.answers.specs.Listed.{listed}
 use Rattle.answers.specs.declared.Refusal.{Refusal}
 use Rattle.answers.proofs.OneToOne.{refused-not-done}
@@ -16,7 +16,7 @@ use Rattle.answers.proofs.Next.{next-next, next-passed, next-zero}
 use Rattle.answers.proofs.Rules.{picked}
 use Rattle.plan.specs.Places.{packPlan}
 use Rattle.plan.specs.Rules.{countRules, rangeRules, planRules}
-use Rattle.slots.specs.Rules.{roomRule, slotsRules}
+use Rattle.slots.specs.Rules.{slotsRules}
 use Rattle.writer.specs.Pack.{packBytes}
 use Rattle.writer.specs.Rules.{writeAnswer}
 use Rattle.writer.proofs.Packed.{plan-end}

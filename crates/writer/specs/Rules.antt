@@ -2,9 +2,8 @@
 use Prim.Native.Nat.{ℕ}
 use mathlib.Core.List.{List, [], _∷_}
 use lib.ListN.{length}
-use Rattle.answers.specs.Table.{Answer, answer, wholes, next}
+use Rattle.answers.specs.Table.{Answer, answer, wholes, next, roomRule}
 use Rattle.plan.specs.Rules.{countRules, rangeRules}
-use Rattle.slots.specs.Rules.{roomRule}
 use Rattle.writer.specs.Pack.{packBytes}
 
 -- the writer that takes no Clen uses this one
