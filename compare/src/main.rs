@@ -4,6 +4,7 @@ extern crate alloc;
 mod kinds;
 mod program;
 mod random;
+mod runs;
 mod stand_in;
 
 // The Rust's own modules, which find the stand-in under the names of their crate.
@@ -13,8 +14,8 @@ mod klv {
     include!(concat!(env!("OUT_DIR"), "/klv.rs"));
 }
 
-use kinds::{has_other_power, hex, print, reasons, set_printed, Case, Kind, KINDS};
-use program::written;
+use kinds::{has_other_power, Case, Kind, KINDS};
+use program::{written, Input};
 use random::Random;
 use std::env;
 use std::fs;
@@ -61,7 +62,14 @@ fn lines_of(cases: &[Case], line: fn(&Case) -> &str) -> String {
 // What the program writes when it is given the requests.
 fn asked(program: &[String], cases: &[Case]) -> io::Result<String> {
     let requests = lines_of(cases, |case| &case.request);
-    written(program, requests.into_bytes(), usize::MAX)
+    let written = written(program, &Input::at_once(requests.into_bytes()))?;
+    if !written.err.is_empty() {
+        return Err(io::Error::other(cut(&written
+            .err
+            .escape_ascii()
+            .to_string())));
+    }
+    String::from_utf8(written.out).map_err(io::Error::other)
 }
 
 fn cut(line: &str) -> String {
@@ -132,51 +140,6 @@ fn three_bytes(program: &[String]) -> io::Result<ExitCode> {
     Ok(ExitCode::from(u8::from(differ > 0)))
 }
 
-// A program, by what it prints of an input, and by what it is given.
-struct Program {
-    printed: fn(&[u8]) -> String,
-    inputs: fn(&mut Random) -> Vec<print::Input>,
-}
-
-fn named(name: &str) -> io::Result<Program> {
-    let (printed, inputs): (fn(&[u8]) -> String, fn(&mut Random) -> _) = match name {
-        "sdcc" => (print::printed, print::inputs),
-        "why" => (reasons::printed, print::inputs),
-        "set" => (set_printed::printed, set_printed::inputs),
-        _ => {
-            return Err(io::Error::other(
-                "the programs that are run are sdcc, why and set",
-            ))
-        }
-    };
-    Ok(Program { printed, inputs })
-}
-
-// A program that prints what it has to say of an input, run on one after the other.
-fn runs(name: &str, seed: u64, program: &[String]) -> io::Result<ExitCode> {
-    let Program {
-        printed: printed_of,
-        inputs,
-    } = named(name)?;
-    let inputs = inputs(&mut Random::new(seed));
-    let mut differ = 0;
-    for input in &inputs {
-        let expected = printed_of(&input.bytes);
-        let printed = written(program, input.bytes.clone(), input.piece)?;
-        if printed == expected {
-            continue;
-        }
-        differ += 1;
-        if differ <= SHOWN {
-            println!("input {}", cut(&hex(&input.bytes)));
-            println!("  Rust  {}", cut(&format!("{expected:?}")));
-            println!("  port  {}", cut(&format!("{printed:?}")));
-        }
-    }
-    println!("{name}: {} runs compared, {differ} differ", inputs.len());
-    Ok(ExitCode::from(u8::from(differ > 0)))
-}
-
 // The requests into sample.req, and the Rust's answers into sample.ans.
 fn sample(seed: u64, count: usize, folder: &Path) -> io::Result<ExitCode> {
     let mut cases = few_at_the_limits();
@@ -200,7 +163,7 @@ fn main() -> ExitCode {
             three_bytes(program)
         }
         [mode, name, seed, program @ ..] if mode == "--runs" && !program.is_empty() => {
-            runs(name, number(seed), program)
+            runs::compare(name, number(seed), program)
         }
         [seed, count, program @ ..] if !program.is_empty() => {
             compare(number(seed), number(count) as usize, program)

@@ -4,6 +4,7 @@ use super::packs_at_limits::{documented, every_control, every_size, longest, of_
 use super::packs_at_random::made;
 use super::{cases, hex, read, write_at_limits, Case, Kind};
 use crate::klv::st1010::peek_matrix_size;
+use crate::program::Input;
 use crate::random::Random;
 
 pub const KIND: Kind = Kind {
@@ -93,12 +94,6 @@ fn random(random: &mut Random) -> Case {
     }
 }
 
-// What the program itself is given, and how many bytes of it at a time.
-pub struct Input {
-    pub bytes: Vec<u8>,
-    pub piece: usize,
-}
-
 // How many packs at random, whole and damaged.
 const RUNS: usize = 2000;
 
@@ -128,8 +123,7 @@ pub fn inputs(random: &mut Random) -> Vec<Input> {
     for length in [BYTES, BYTES + 1, 1_000_000] {
         at_once.extend(listed().iter().map(|pack| of_length(pack, length)));
     }
-    let of_piece = |piece: usize| move |bytes: Vec<u8>| Input { bytes, piece };
-    let at_once = at_once.into_iter().map(of_piece(usize::MAX));
-    let by_byte = listed().into_iter().map(of_piece(1));
+    let at_once = at_once.into_iter().map(Input::at_once);
+    let by_byte = listed().into_iter().map(Input::by_byte);
     at_once.chain(by_byte).collect()
 }

@@ -1,10 +1,11 @@
 //! What the program `set` prints: the first line, and of each pack its place, its tags and what the Rust's
 //! `decode_sdcc_flp` reads of it.
 use super::packs::{self, Control};
-use super::print::{Input, TOO_BIG};
+use super::print::TOO_BIG;
 use super::read;
 use super::set::{walk, Captured, Seen};
 use super::sets::{item, made, pack, PACK};
+use crate::program::Input;
 use crate::random::Random;
 
 // The most that the program reads, which is added.
@@ -66,14 +67,6 @@ pub fn inputs(random: &mut Random) -> Vec<Input> {
     let by_byte = sets[0].clone();
     sets.extend([Vec::new(), of_most_rows(random)]);
     sets.extend(longest(random));
-    let at_once = sets.into_iter().map(|bytes| Input {
-        bytes,
-        piece: usize::MAX,
-    });
-    at_once
-        .chain([Input {
-            bytes: by_byte,
-            piece: 1,
-        }])
-        .collect()
+    let at_once = sets.into_iter().map(Input::at_once);
+    at_once.chain([Input::by_byte(by_byte)]).collect()
 }
