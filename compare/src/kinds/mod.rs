@@ -5,6 +5,9 @@ pub use in_range::has_other_power;
 
 mod ber;
 mod cell;
+mod from_npy;
+mod from_npy_at_limits;
+mod from_npy_headers;
 mod in_range;
 mod lent;
 mod map;
@@ -12,6 +15,8 @@ mod mapped;
 mod mapped_in;
 mod matrices;
 mod narrow;
+mod npy;
+mod npy_files;
 mod oid;
 mod packs;
 mod packs_at_limits;
@@ -30,6 +35,8 @@ mod sets_at_limits;
 mod short;
 mod special;
 mod states;
+mod to_npy;
+mod to_npy_at_limits;
 mod usable;
 mod usable_at_limits;
 mod why;
@@ -53,7 +60,7 @@ pub struct Kind {
     pub share: usize,
 }
 
-pub const KINDS: [Kind; 19] = [
+pub const KINDS: [Kind; 21] = [
     oid::KIND,
     oid::STRICT,
     ber::KIND,
@@ -73,6 +80,8 @@ pub const KINDS: [Kind; 19] = [
     print::KIND,
     why::KIND,
     set::KIND,
+    to_npy::KIND,
+    from_npy::KIND,
 ];
 
 // A request for each byte string.

@@ -1,4 +1,5 @@
 //! `read DROOM CROOM SROOM HEX`: a whole pack, by the Rust's `decode_sdcc_flp`; `states` has what each slot was.
+use super::matrices::Matrix;
 use super::packs::{pack, slots, Control};
 use super::packs_at_limits::{documented, every_control, every_cut, every_short, every_size};
 use super::packs_at_limits::{longest, of_long_codes, padded};
@@ -38,7 +39,7 @@ pub(super) fn answer_of(
     decoded: Result<SdccFlp, KlvFieldError>,
 ) -> String {
     match decoded {
-        Ok(read) => no_room(&read, rooms).unwrap_or_else(|| lines(bytes, &read)),
+        Ok(read) => stored(rooms, &matrix(bytes, &read), &states(bytes, &read)),
         Err(error) => refused(error, bytes),
     }
 }
@@ -70,9 +71,7 @@ pub(super) fn refused(error: KlvFieldError, bytes: &[u8]) -> String {
 }
 
 // Rule l), which the Rust has no need of: it allocates.
-fn no_room(read: &SdccFlp, rooms: Rooms) -> Option<String> {
-    let slots = read.correlations.len();
-    let needed = [read.std_devs.len(), slots, slots];
+fn no_room(needed: Rooms, rooms: Rooms) -> Option<String> {
     let mut lent = needed.into_iter().zip(rooms);
     let (needed, got) = lent.find(|(needed, got)| got < needed)?;
     Some(format!("refused 5 {needed} {got}"))
@@ -90,25 +89,50 @@ fn bits(number: f64, bytes: &[u8]) -> u64 {
     }
 }
 
-// The lines of a pack that was read. Its numbers stand at the end of the bytes.
-fn lines(bytes: &[u8], read: &SdccFlp) -> String {
+// The numbers of a pack that was read, which stand at the end of its bytes.
+pub(super) fn matrix(bytes: &[u8], read: &SdccFlp) -> Matrix {
     let (_, control) = read_ber_oid(bytes).unwrap();
     let slen = body(control).unwrap().slen;
     let slots = slots_of(bytes, read);
     let codes = slots.first().map_or(bytes.len(), |slot| slot.code.start);
-    let deviations = codes - read.std_devs.len() * slen;
-    let mut lines = format!(
-        "n {} deviations {} slots {}",
-        read.matrix_size,
-        read.std_devs.len(),
-        read.correlations.len()
-    );
-    for (row, &deviation) in read.std_devs.iter().enumerate() {
-        let raw = &bytes[deviations + row * slen..][..slen];
-        write!(lines, ";s {row} {:016X}", bits(deviation, raw)).unwrap();
+    let deviations = &bytes[codes - read.std_devs.len() * slen..];
+    let deviation = |(row, &number): (usize, &f64)| bits(number, &deviations[row * slen..][..slen]);
+    let correlation = |(slot, &number): (&Slot, &f64)| bits(number, &bytes[slot.code.clone()]);
+    Matrix {
+        n: read.matrix_size,
+        deviations: read.std_devs.iter().enumerate().map(deviation).collect(),
+        correlations: slots
+            .iter()
+            .zip(&read.correlations)
+            .map(correlation)
+            .collect(),
     }
-    for (Slot { i, j, state, code }, &number) in slots.into_iter().zip(&read.correlations) {
-        let bits = bits(number, &bytes[code]);
+}
+
+fn states(bytes: &[u8], read: &SdccFlp) -> Vec<u8> {
+    let slots = slots_of(bytes, read);
+    slots.iter().map(|slot| slot.state).collect()
+}
+
+// The answer where the numbers and the states are stored in these rooms.
+pub(super) fn stored(rooms: Rooms, matrix: &Matrix, states: &[u8]) -> String {
+    let (rows, slots) = (matrix.deviations.len(), matrix.correlations.len());
+    no_room([rows, slots, slots], rooms).unwrap_or_else(|| lines(matrix, states))
+}
+
+fn lines(matrix: &Matrix, states: &[u8]) -> String {
+    let Matrix {
+        n,
+        deviations,
+        correlations,
+    } = matrix;
+    let (rows, slots) = (deviations.len(), correlations.len());
+    let mut lines = format!("n {n} deviations {rows} slots {slots}");
+    for (row, bits) in deviations.iter().enumerate() {
+        write!(lines, ";s {row} {bits:016X}").unwrap();
+    }
+    let cells = (0..*n).flat_map(|i| (i + 1..*n).map(move |j| (i, j)));
+    for (((i, j), state), bits) in cells.zip(states).zip(correlations) {
         write!(lines, ";c {i} {j} {state} {bits:016X}").unwrap();
     }
     lines
