@@ -1,5 +1,5 @@
 //! The programs that are run on inputs of their own, one after the other, and what each is to write.
-use crate::kinds::{hex, print, reasons, set_printed};
+use crate::kinds::{hex, npy_programs, print, reasons, set_printed};
 use crate::program::{written, Input, Written};
 use crate::random::Random;
 use crate::{cut, SHOWN};
@@ -26,9 +26,17 @@ fn named(name: &str) -> io::Result<Program> {
             expected: |input| Written::to_output(set_printed::printed(&input.bytes)),
             inputs: set_printed::inputs,
         },
+        "to_npy" => Program {
+            expected: npy_programs::to_npy,
+            inputs: npy_programs::packs,
+        },
+        "to_pack" => Program {
+            expected: npy_programs::to_pack,
+            inputs: npy_programs::files,
+        },
         _ => {
             return Err(io::Error::other(
-                "the programs that are run are sdcc, why and set",
+                "the programs that are run are sdcc, why, set, to_npy and to_pack",
             ))
         }
     })

@@ -17,6 +17,7 @@ mod matrices;
 mod narrow;
 mod npy;
 mod npy_files;
+pub mod npy_programs;
 mod oid;
 mod packs;
 mod packs_at_limits;

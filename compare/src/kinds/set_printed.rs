@@ -9,7 +9,7 @@ use crate::program::Input;
 use crate::random::Random;
 
 // The most that the program reads, which is added.
-const BYTES: usize = 600_000;
+pub(super) const BYTES: usize = 600_000;
 
 fn of_pack(bytes: &[u8], seen: &Seen, captured: &Captured) -> String {
     let Captured { value, tags } = captured;
