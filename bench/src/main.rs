@@ -1,6 +1,7 @@
 //! The Rust's side of what bench/run measures: the operation, the matrix and the figure of the program `pace`.
 mod codes;
 mod matrix;
+mod npy;
 
 use std::env;
 use tst_core::klv::st1010::{decode_sdcc_flp, encode_sdcc_flp_mode2, SdccFlp};
@@ -14,6 +15,8 @@ enum Op {
     Cell,
     Value,
     Special,
+    ToNpy,
+    FromNpy,
     Each,
     Idle,
 }
@@ -33,7 +36,7 @@ struct Job {
     reps: usize,
 }
 
-// What the operations change.
+// What the operations change. Where the operation is one of .npy files, the pack is such a file.
 struct State {
     matrix: SdccFlp,
     pack: Vec<u8>,
@@ -51,9 +54,13 @@ fn asked() -> Job {
             "cell" => Op::Cell,
             "value" => Op::Value,
             "special" => Op::Special,
+            "to-npy" => Op::ToNpy,
+            "from-npy" => Op::FromNpy,
             "each" => Op::Each,
             "idle" => Op::Idle,
-            _ => panic!("OP is read, write, peek, cell, value, special, each or idle"),
+            _ => panic!(
+                "OP is read, write, peek, cell, value, special, to-npy, from-npy, each or idle"
+            ),
         },
         rows: number(1),
         clen: number(2),
@@ -118,6 +125,17 @@ fn peek(state: &State) -> u64 {
     peek_matrix_size(&state.pack).expect("it has a size") as u64
 }
 
+fn to_npy(matrix: &SdccFlp, out: &mut [u8]) -> u64 {
+    let (deviations, correlations) = (&matrix.std_devs, &matrix.correlations);
+    npy::export(deviations.len(), deviations, correlations, out).expect("it is made") as u64
+}
+
+fn from_npy(file: &[u8], matrix: &mut SdccFlp) -> u64 {
+    let (deviations, correlations) = (&mut matrix.std_devs, &mut matrix.correlations);
+    let present = &mut matrix.correlation_present;
+    npy::import(file, deviations, correlations, present).expect("it is read") as u64
+}
+
 fn each(state: &mut State, clen: usize) -> u64 {
     let slots = read(state);
     let values = codes::of_values(&state.matrix.correlations, clen, &mut state.pack);
@@ -138,6 +156,8 @@ fn once(job: &Job, state: &mut State) -> u64 {
         Op::Special => {
             codes::of_specials(state.matrix.correlations.len(), job.clen, &mut state.pack)
         }
+        Op::ToNpy => to_npy(&state.matrix, &mut state.pack),
+        Op::FromNpy => from_npy(&state.pack, &mut state.matrix),
         Op::Each => each(state, job.clen),
         Op::Idle => 0,
     }
@@ -155,17 +175,31 @@ fn repeat(job: &Job, state: &mut State) -> u64 {
     sum
 }
 
-// The matrix and its pack.
-fn made(job: &Job) -> State {
-    let sparse = job.kind == Kind::Sparse;
-    let matrix = matrix::made(job.rows, sparse);
-    let mut pack = written(&matrix, job.clen);
+fn pack_of(job: &Job, matrix: &SdccFlp) -> Vec<u8> {
+    let mut pack = written(matrix, job.clen);
     // element 2 stands behind one byte of N, or two
     let control = pack[if job.rows < 128 { 1 } else { 2 }];
+    let sparse = job.kind == Kind::Sparse;
     assert_eq!(control & 0x20 != 0, sparse, "the pack is of the other kind");
     if job.kind == Kind::Specials {
         codes::over_last(matrix.correlations.len(), job.clen, &mut pack);
     }
+    pack
+}
+
+fn file_of(matrix: &SdccFlp) -> Vec<u8> {
+    let mut file = vec![0; npy::length(matrix.std_devs.len())];
+    to_npy(matrix, &mut file);
+    file
+}
+
+// The matrix, and its pack or file.
+fn made(job: &Job) -> State {
+    let matrix = matrix::made(job.rows, job.kind == Kind::Sparse);
+    let pack = match job.op {
+        Op::ToNpy | Op::FromNpy => file_of(&matrix),
+        _ => pack_of(job, &matrix),
+    };
     State { matrix, pack }
 }
 
