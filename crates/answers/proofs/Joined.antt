@@ -1,10 +1,11 @@
 -- Laws of lists one behind the other: how long they are together, and where each stands.
 -- Assumes nothing.
-use mathlib.Core.Path.{_≡_, refl, sym}
+use mathlib.Core.Path.{_≡_, refl, sym, ap₂}
 use mathlib.Core.List.{List, [], _++_, append-nil, append-assoc}
 use mathlib.Core.Logic.{⊎-elim}
-use Prim.Native.Nat.{ℕ, zero, suc, _+_, _*_, _≤_, _<_}
+use Prim.Native.Nat.{ℕ, zero, suc, _+_, _-_, _*_, _≤_, _<_}
 use native.Mathlib.Nat.{add-zero, add-suc, zero-mul, suc-mul, le-of-suc-le-suc, eq-or-lt-of-le}
+use native.Mathlib.Numerals.{add-one}
 use native.Mathlib.Omega.{arith}
 use lib.ListN.{length, take, drop, length-append}
 use lib.Seq.{take-at, drop-at}
@@ -44,3 +45,15 @@ module _ (f : ℕ → List ℕ) where
       (λ l. rw append-assoc (joined-part n k (f n ++ rest) l))
       (eq-or-lt-of-le (le-of-suc-le-suc h))
   joined-part zero k rest h = absurd (omega arith)
+
+  -- the k-th stands between those before it and those behind it
+  pub joined-around : (k n : ℕ) → k < n → joined n f ≡ joined k f ++ (f k ++ joined (n - 1 - k) (λ j. f (k + 1 + j)))
+  joined-around k n h =
+      let e : k + 1 + (n - 1 - k) ≡ n = omega arith in
+      let q : joined (k + 1) f ≡ joined k f ++ f k = rw add-one in
+      rw (q, append-assoc) at (rw e at (joined-add (k + 1) (n - 1 - k)))
+
+-- lists of equal lists
+pub joined-same : {f g : ℕ → List ℕ} (n : ℕ) → ((k : ℕ) → k < n → f k ≡ g k) → joined n f ≡ joined n g
+joined-same zero h = refl
+joined-same (suc n) h = ap₂ _++_ (joined-same n (λ k l. h k (omega arith))) (h n (omega arith))

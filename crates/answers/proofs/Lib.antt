@@ -4,6 +4,7 @@ pub mod InTable
 pub mod Joined
 pub mod Lent
 pub mod Next
+pub mod Each
 pub mod OneAnswer
 pub mod OneToOne
 pub mod Outcome

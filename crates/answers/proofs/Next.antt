@@ -1,6 +1,6 @@
 -- Laws of an order of rules: `next`, and what holds where every rule was passed.
 -- Assumes nothing.
-use mathlib.Core.Path.{_≡_, refl, sym}
+use mathlib.Core.Path.{_≡_, refl, sym, ap}
 use mathlib.Core.Bool.{Bool, true, false}
 use mathlib.Core.List.{List}
 use Prim.Native.Nat.{ℕ}
@@ -32,6 +32,15 @@ pub next-zero : (a b : Answer) → next a b .number ≡ 0 → (a .number ≡ 0) 
 next-zero a b =
     picked (λ x. x .number ≡ 0 → (a .number ≡ 0) × (b .number ≡ 0)) (eqb (a .number) 0) b a
     (λ t e. (eqb-true (a .number) 0 t, e)) (λ f e. absurd (eqb-false (a .number) 0 f e))
+
+-- a rule that refuses nothing did not hold its test
+pub unheld : (t : Bool) (a : Answer) → eqb (a .number) 0 ≡ false → pick t a passes .number ≡ 0 → t ≡ false
+unheld true a f z = absurd (eqb-false (a .number) 0 f z)
+unheld false a f z = refl
+
+-- a check that passes is of rules that refuse nothing
+pub check-passed : {k : Check} {a : Answer} → k ≡ Passes → checked k ≡ a → a .number ≡ 0
+check-passed e f = let g = rw e at f in sym (ap (λ (x : Answer). x .number) g)
 
 -- what an answer says where it refuses nothing
 pub record Says (P : Answer → Type 0) (a : Answer) : Type 0 where

@@ -1,5 +1,5 @@
 -- Document 01's answers, independent of the code's enums: a number, and the entries that it carries.
-use Prim.Native.Nat.{ℕ}
+use Prim.Native.Nat.{ℕ, zero, suc}
 use mathlib.Core.Bool.{Bool, true, false}
 use mathlib.Core.List.{List, [], _∷_}
 use lib.Dec.{eqb, ltb}
@@ -44,6 +44,11 @@ passes = answer 0 []
 
 abbrev pub next : Answer → Answer → Answer
 next a b = pick (eqb (a .number) 0) b a
+
+-- the first so many rules, each where those before it refuse nothing
+abbrev pub each : ℕ → (ℕ → Answer) → Answer
+each zero rule = passes
+each (suc k) rule = next (each k rule) (rule k)
 
 -- less room than is needed: 5 with both
 abbrev pub roomRule : ℕ → ℕ → Answer

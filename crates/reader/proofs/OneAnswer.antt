@@ -38,15 +38,25 @@ read-one (Refused r) (Refused r′) e = ap Refused (listed-one r r′ e)
 left-one : (front lent : List ℕ) {x y : Answer} {l m : List ℕ} → x ≡ y → l ≡ leaves x front lent → m ≡ leaves y front lent → l ≡ m
 left-one front lent e p q = p ∙ ap (λ (a : Answer). leaves a front lent) e ∙ sym q
 
--- what is left by two answers that are listed alike
+-- two answers to what has one, over the fronts of three lent lists, are one answer and leave the same
+module _ (fd fc fs ds cs ss : List ℕ) where
+  abbrev pub Answers : Answer → ReadAnswer → List ℕ → List ℕ → List ℕ → Type 0
+  Answers a r l m n =
+      (readListed r ≡ a) × (l ≡ leaves (readListed r) fd ds) × (m ≡ leaves (readListed r) fc cs) × (n ≡ leaves (readListed r) fs ss)
+
+  pub reads-one : {a : Answer} {r r′ : ReadAnswer} {l l′ m m′ n n′ : List ℕ} → Answers a r l m n → Answers a r′ l′ m′ n′
+      → (r ≡ r′) × (_≡_ {A = List ℕ × List ℕ × List ℕ} (l, m, n) (l′, m′, n′))
+  reads-one {r = r} {r′} p q =
+      let e = p .0 ∙ sym (q .0) in
+      let d = left-one fd ds e (p .1) (q .1) in
+      let c = left-one fc cs e (p .2) (q .2) in
+      let b = left-one fs ss e (p .3) (q .3) in
+      (read-one r r′ e, λ i. (d i, c i, b i))
+
+-- of a pack's bytes, over a range or none
 module _ (range : DeviationRange) (bytes ds cs ss : List ℕ) {r r′ : ReadAnswer} {l l′ m m′ n n′ : List ℕ} where
   both-one : Meets range bytes ds cs ss r l m n → Meets range bytes ds cs ss r′ l′ m′ n′ → (r ≡ r′) × (_≡_ {A = List ℕ × List ℕ × List ℕ} (l, m, n) (l′, m′, n′))
-  both-one p q =
-      let e = p .0 ∙ sym (q .0) in
-      let d = left-one (deviationsOver range bytes (headOf bytes)) ds e (p .1) (q .1) in
-      let c = left-one (correlations bytes (headOf bytes)) cs e (p .2) (q .2) in
-      let b = left-one (states bytes (headOf bytes)) ss e (p .3) (q .3) in
-      (read-one r r′ e, λ i. (d i, c i, b i))
+  both-one = reads-one (deviationsOver range bytes (headOf bytes)) (correlations bytes (headOf bytes)) (states bytes (headOf bytes)) ds cs ss
 
 pub decode-sdcc-flp-one : OneAnswer {L = List ℕ × List ℕ × List ℕ} decode-sdcc-flp.Learnt (λ κs s. (now (s .1 .0), now (s .1 .1 .0), now (s .1 .1 .1 .0)))
 decode-sdcc-flp-one κs a r r′ s s′ p q = both-one Unknown (now (a .0)) (now (a .1 .0)) (now (a .1 .1 .0)) (now (a .1 .1 .1 .0)) p q

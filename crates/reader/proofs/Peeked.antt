@@ -9,7 +9,8 @@ use Rattle.layout.specs.Size.{peeked, fitRules}
 use Rattle.layout.proofs.Peek.{peek-nothing}
 use Rattle.answers.specs.Table.{next}
 use Rattle.answers.proofs.Next.{next-zero, next-passed}
-use Rattle.elements.specs.Elements.{headOf}
+use Rattle.layout.specs.Triangle.{slotsOf}
+use Rattle.elements.specs.Elements.{headOf, deviationCount}
 use Rattle.deviations.specs.declared.form.DeviationRange.{DeviationRange}
 use Rattle.deviations.specs.Range.{lentRule}
 use Rattle.rules.specs.Rules.{elementRules, packRules, roomRules}
@@ -32,7 +33,7 @@ module _ (range : DeviationRange) (bytes : List ℕ) (ds cs ss : ℕ) (z : readA
   read-done = next-passed (storeRules range bytes ds cs ss) (done (headOf bytes)) passed
 
   -- the rooms hold what is stored
-  pub read-rooms : Rooms (headOf bytes) ds cs ss
+  pub read-rooms : Rooms (deviationCount (headOf bytes)) (slotsOf (headOf bytes .n)) ds cs ss
   read-rooms = rooms (headOf bytes) ds cs ss (next-zero (packRules range bytes) (roomRules (headOf bytes) ds cs ss) passed .1)
 
   pub read-fits : fitRules bytes .number ≡ 0

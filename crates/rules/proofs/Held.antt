@@ -24,7 +24,7 @@ use Rattle.elements.specs.Held.{SlotsHeld, Within}
 use Rattle.deviations.specs.declared.form.DeviationRange.{DeviationRange}
 use Rattle.deviations.specs.Range.{lentRule, rowPart}
 use Rattle.deviations.specs.Form.{Form, formOf, formFormat}
-use Rattle.rules.specs.Rules.{inTurn, ruleH, ruleI, ruleJ, ruleK, elementRules, roomRules}
+use Rattle.rules.specs.Rules.{inTurn, ruleH, ruleI, ruleJ, ruleK, elementRules, roomsRule, roomRules}
 use Rattle.rules.proofs.InTurn.{Format}
 use Rattle.rules.proofs.Decided.{by-form, code-format}
 use Rattle.rules.proofs.Named.{element-answers}
@@ -93,14 +93,17 @@ held range bytes h z w e =
     let cs = turns-held bytes (codesAt h) (k .clen) (λ _. codeFormat k) (presentCount bytes h) l (j .0) in
     record { deviations = ds .0; each = ds .1; slots = record { whole = cs .0; format = λ p. passed (code-format k) (cs .1 0 p) } }
 
--- ---- rule l)
-pub record Rooms (h : Head) (ds cs ss : ℕ) : Type 0 where
-  pub deviations : deviationCount h ≤ ds
-  pub correlations : slotsOf (h .n) ≤ cs
-  pub states : slotsOf (h .n) ≤ ss
+-- ---- rule l), and of any matrix of so many rows and slots
+pub record Rooms (rows slots ds cs ss : ℕ) : Type 0 where
+  pub deviations : rows ≤ ds
+  pub correlations : slots ≤ cs
+  pub states : slots ≤ ss
 
-rooms-tell : (h : Head) (ds cs ss : ℕ) → Says (λ _. Rooms h ds cs ss) (roomRules h ds cs ss)
-rooms-tell h ds cs ss = search (rules, ltb-false) depth 7
+rooms-tell : (rows slots ds cs ss : ℕ) → Says (λ _. Rooms rows slots ds cs ss) (roomsRule rows slots ds cs ss)
+rooms-tell rows slots ds cs ss = search (rules, ltb-false) depth 7
 
-pub rooms : (h : Head) (ds cs ss : ℕ) → roomRules h ds cs ss .number ≡ 0 → Rooms h ds cs ss
-rooms h ds cs ss z = rooms-tell h ds cs ss .done z
+pub rooms-for : (rows slots ds cs ss : ℕ) → roomsRule rows slots ds cs ss .number ≡ 0 → Rooms rows slots ds cs ss
+rooms-for rows slots ds cs ss z = rooms-tell rows slots ds cs ss .done z
+
+pub rooms : (h : Head) (ds cs ss : ℕ) → roomRules h ds cs ss .number ≡ 0 → Rooms (deviationCount h) (slotsOf (h .n)) ds cs ss
+rooms h = rooms-for (deviationCount h) (slotsOf (h .n))

@@ -1,11 +1,11 @@
 -- Document 01, "Reader's order": the rules h) to l), each as it stands there, behind a) to g) of `layout`. A range that
 -- is lent comes before them all.
-use Prim.Native.Nat.{ℕ, zero, suc, _+_, _-_, _*_}
+use Prim.Native.Nat.{ℕ, _+_, _-_, _*_}
 use mathlib.Core.Bool.{not, _&&_}
 use mathlib.Core.List.{List, [], _∷_}
 use lib.Dec.{eqb, ltb}
 use lib.ListN.{length}
-use Rattle.answers.specs.Table.{Answer, answer, short, wholes, pick, passes, next}
+use Rattle.answers.specs.Table.{Answer, answer, short, wholes, pick, passes, next, each}
 use Rattle.layout.specs.declared.control.ParseControl.{ParseControl}
 use Rattle.layout.specs.declared.rule.Rule.the-variants.{H, I, J, K}
 use Rattle.layout.specs.Ruled.{Ruled, passed, named, unnamed}
@@ -20,9 +20,7 @@ use Rattle.deviations.specs.Range.{lentRule, formatOver, rowPart}
 
 -- each of n elements of `size` bytes from `at` on, in turn, with what its format refuses
 abbrev pub inTurn : List ℕ → ℕ → ℕ → (ℕ → Answer) → ℕ → Answer
-inTurn bytes at size format zero = passes
-inTurn bytes at size format (suc n) =
-    next (inTurn bytes at size format n) (elementRule bytes (at + n * size) size (format n))
+inTurn bytes at size format n = each n (λ k. elementRule bytes (at + k * size) size (format k))
 
 -- CS=1, Clen>0 and present·Clen exceeds what is left: 1 with present·Clen and what is left
 abbrev pub codesRule : ParseControl → ℕ → ℕ → Answer

@@ -1,0 +1,15 @@
+pub mod Headers
+pub mod Digits
+pub mod Spelled
+pub mod Breaks
+pub mod Examples
+pub mod Places
+pub mod Body
+pub mod Put
+pub mod Passed
+pub mod Matrix
+pub mod Held
+pub mod Imported
+pub mod Entries
+pub mod Trips
+pub mod OneAnswer

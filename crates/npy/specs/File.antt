@@ -1,0 +1,61 @@
+-- Document 02, K8: a matrix as a .npy file, deviations on the diagonal, correlations on both sides; and the entries of a
+-- file.
+use Prim.Native.Nat.{ℕ, min, max, _+_, _-_, _*_}
+use mathlib.Core.List.{List, _++_}
+use lib.Dec.{eqb}
+use lib.ListN.{getD}
+use Rattle.answers.specs.Table.{pick}
+use Rattle.answers.specs.Lent.{tab, joined}
+use Rattle.numbers.specs.Words.{lowWordOf, lowBytesOf}
+use Rattle.layout.specs.Triangle.{slotsOf, slotOf}
+use Rattle.elements.specs.Elements.{part}
+use Rattle.npy.specs.Header.{headerLength, header}
+
+abbrev pub bodyLength : ℕ → ℕ
+bodyLength n = 8 * (n * n)
+
+abbrev pub fileLength : ℕ → ℕ
+fileLength n = headerLength + bodyLength n
+
+-- ---- the file of a matrix of n rows
+module _ (n : ℕ) (ds cs : List ℕ) where
+  -- entry (i,j), by the numbering of the slots either way round
+  abbrev pub entryOf : ℕ → ℕ → ℕ
+  entryOf i j = pick (eqb i j) (getD ds i 0) (getD cs (slotOf n (min i j) (max i j)) 0)
+
+  -- a binary64 is eight bytes, the low one first
+  abbrev pub entryBytes : ℕ → ℕ → List ℕ
+  entryBytes i j = lowBytesOf 8 (entryOf i j)
+
+  abbrev pub rowBytes : ℕ → List ℕ
+  rowBytes i = joined n (entryBytes i)
+
+  -- row by row
+  unfoldable pub bodyOf : List ℕ
+  bodyOf = joined n rowBytes
+
+  abbrev pub fileOf : List ℕ
+  fileOf = header n ++ bodyOf
+
+-- ---- the matrix of n rows in a file
+-- where entry (i,j) starts
+abbrev pub placeOf : ℕ → ℕ → ℕ → ℕ
+placeOf n i j = headerLength + 8 * (i * n + j)
+
+module _ (file : List ℕ) (n : ℕ) where
+  abbrev pub entryIn : ℕ → ℕ → ℕ
+  entryIn i j = lowWordOf (part file (placeOf n i j) 8)
+
+  abbrev pub deviationsIn : List ℕ
+  deviationsIn = tab n (λ i. entryIn i i)
+
+  -- of row i those of j from i+1 to N-1
+  abbrev pub rowIn : ℕ → List ℕ
+  rowIn i = tab (n - 1 - i) (λ k. entryIn i (i + 1 + k))
+
+  unfoldable pub correlationsIn : List ℕ
+  correlationsIn = joined n rowIn
+
+  -- every slot is a value
+  abbrev pub statesIn : List ℕ
+  statesIn = tab (slotsOf n) (λ _. 1)

@@ -1,0 +1,61 @@
+-- Document 02, K8: what export and import refuse, in its order, and what they answer otherwise.
+use Prim.Native.Nat.{ℕ, _+_, _-_}
+use mathlib.Core.List.{List, [], _∷_}
+use lib.Dec.{eqb, ltb}
+use lib.ListN.{length}
+use Rattle.answers.specs.Table.{Answer, answer, wholes, pick, passes, next, each, roomRule}
+use Rattle.layout.specs.Size.{limitRule}
+use Rattle.layout.specs.Triangle.{slotsOf}
+use Rattle.rules.specs.Rules.{roomsRule}
+use Rattle.npy.specs.Header.{headerLength, sizeIn, breakIn}
+use Rattle.npy.specs.File.{bodyLength, fileLength, entryIn}
+
+-- a count that is not the one expected: 2 with both
+abbrev pub countRule : ℕ → ℕ → Answer
+countRule expected got = pick (eqb expected got) passes (answer 2 (wholes (expected ∷ got ∷ [])))
+
+-- ---- export, of so many deviations and correlations, given the room
+-- N above the limit: 3; then the deviation count, which is to be N; then the correlation count, which is to be M; then 5
+abbrev pub exportRules : ℕ → ℕ → ℕ → ℕ → Answer
+exportRules n ds cs room =
+    next (limitRule n) (next (countRule n ds) (next (countRule (slotsOf n) cs) (roomRule (fileLength n) room)))
+
+-- done carries the file's length
+abbrev pub exportAnswer : ℕ → ℕ → ℕ → ℕ → Answer
+exportAnswer n ds cs room = next (exportRules n ds cs room) (answer 0 (wholes (fileLength n ∷ [])))
+
+-- ---- import
+-- the first byte that breaks the header: 11 with its offset
+abbrev pub brokenAt : ℕ → Answer
+brokenAt at = answer 11 (wholes (at ∷ []))
+
+abbrev pub headerRule : List ℕ → Answer
+headerRule file = pick (ltb (breakIn file) headerLength) (brokenAt (breakIn file)) passes
+
+-- two entries that differ in any bit: 12 with i, j
+abbrev pub pairRule : List ℕ → ℕ → ℕ → ℕ → Answer
+pairRule file n i j =
+    pick (eqb (entryIn file n i j) (entryIn file n j i)) passes (answer 12 (wholes (i ∷ j ∷ [])))
+
+-- the pairs of row i, and of all rows
+abbrev pub rowRules : List ℕ → ℕ → ℕ → Answer
+rowRules file n i = each (n - 1 - i) (λ k. pairRule file n i (i + 1 + k))
+
+unfoldable pub pairRules : List ℕ → ℕ → Answer
+pairRules file n = each n (rowRules file n)
+
+-- behind the header: N above the limit: 3; then the body's length, which is to be 8·N·N
+abbrev pub sizeRules : List ℕ → ℕ → Answer
+sizeRules file n = next (limitRule n) (countRule (bodyLength n) (length file - headerLength))
+
+-- the file's own rules, and then the rooms for deviations, correlations and states
+abbrev pub fileRules : List ℕ → Answer
+fileRules file = next (headerRule file) (next (sizeRules file (sizeIn file)) (pairRules file (sizeIn file)))
+
+abbrev pub importRules : List ℕ → ℕ → ℕ → ℕ → Answer
+importRules file d c s = next (fileRules file) (roomsRule (sizeIn file) (slotsOf (sizeIn file)) d c s)
+
+-- done carries N, the deviation count and M
+abbrev pub importAnswer : List ℕ → ℕ → ℕ → ℕ → Answer
+importAnswer file d c s =
+    next (importRules file d c s) (answer 0 (wholes (sizeIn file ∷ sizeIn file ∷ slotsOf (sizeIn file) ∷ [])))

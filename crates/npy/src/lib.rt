@@ -1,0 +1,8 @@
+//! Matrices to and from NumPy's .npy files.
+mod entry;
+pub mod export;
+mod header;
+pub mod import;
+mod pairs;
+mod store;
+mod write;
