@@ -11,10 +11,22 @@ use lib.ListN.{length, take, drop, length-append}
 use lib.Seq.{take-at, drop-at}
 use Rattle.answers.specs.Lent.{joined}
 
+-- lists that are equal one by one
+pub joined-same : {f g : ℕ → List ℕ} (n : ℕ) → ((k : ℕ) → k < n → f k ≡ g k) → joined n f ≡ joined n g
+joined-same zero h = refl
+joined-same (suc n) h = ap₂ _++_ (joined-same n (λ k l. h k (omega arith))) (h n (omega arith))
+
 module _ (f : ℕ → List ℕ) where
   pub joined-add : (m n : ℕ) → joined (m + n) f ≡ joined m f ++ joined n (λ j. f (m + j))
   joined-add m zero = rw (add-zero, append-nil)
   joined-add m (suc n) = rw (add-suc, joined-add m n, append-assoc)
+
+  -- the i-th stands between those before it and those behind it
+  pub joined-around : (i n : ℕ) → i < n → joined n f ≡ joined i f ++ (f i ++ joined (n - 1 - i) (λ k. f (i + 1 + k)))
+  joined-around i n h =
+      let e : i + 1 + (n - 1 - i) ≡ n = omega arith in
+      let q : joined (i + 1) f ≡ joined i f ++ f i = rw add-one in
+      rw (q, append-assoc) at (rw e at (joined-add (i + 1) (n - 1 - i)))
 
   -- lists of one length
   pub length-joined : (s : ℕ) → ((k : ℕ) → length (f k) ≡ s) → (n : ℕ) → length (joined n f) ≡ n * s
@@ -45,15 +57,3 @@ module _ (f : ℕ → List ℕ) where
       (λ l. rw append-assoc (joined-part n k (f n ++ rest) l))
       (eq-or-lt-of-le (le-of-suc-le-suc h))
   joined-part zero k rest h = absurd (omega arith)
-
-  -- the k-th stands between those before it and those behind it
-  pub joined-around : (k n : ℕ) → k < n → joined n f ≡ joined k f ++ (f k ++ joined (n - 1 - k) (λ j. f (k + 1 + j)))
-  joined-around k n h =
-      let e : k + 1 + (n - 1 - k) ≡ n = omega arith in
-      let q : joined (k + 1) f ≡ joined k f ++ f k = rw add-one in
-      rw (q, append-assoc) at (rw e at (joined-add (k + 1) (n - 1 - k)))
-
--- lists of equal lists
-pub joined-same : {f g : ℕ → List ℕ} (n : ℕ) → ((k : ℕ) → k < n → f k ≡ g k) → joined n f ≡ joined n g
-joined-same zero h = refl
-joined-same (suc n) h = ap₂ _++_ (joined-same n (λ k l. h k (omega arith))) (h n (omega arith))

@@ -1,20 +1,28 @@
--- Laws of runs of stores, `sets` of the kit: one behind the other, two that do not meet in either order, and one over
--- another.
+-- Laws of runs of stores, `sets` of the kit: one behind the other, two that do not meet in either order, one over
+-- another, and what is written into a part that is lent.
 -- Assumes nothing.
-use mathlib.Core.Path.{_≡_, refl, ap, _∙_}
-use mathlib.Core.List.{List, [], _∷_, _++_}
-use Prim.Native.Nat.{ℕ, suc, _+_, _≤_, _<_}
+use mathlib.Core.Path.{_≡_, refl, sym, ap, _∙_}
+use mathlib.Core.List.{List, [], _∷_, _++_, append-assoc}
+use Prim.Native.Nat.{ℕ, suc, _+_, _-_, _≤_, _<_}
 use native.Mathlib.Nat.{add-zero, zero-add}
 use native.Mathlib.Numerals.{add-one}
 use native.Mathlib.Omega.{arith}
-use lib.ListN.{length, getD, set}
-use lib.Seq.{sets, sets-eq, set-comm, set-set, getD-set-other}
+use lib.ListN.{length, take, drop, getD, set, length-drop}
+use lib.Seq.{sets, sets-eq, set-comm, set-set, getD-set-other, length-take-le, drop-drop}
 use Rattle.answers.specs.Lent.{over, tab}
 use Rattle.answers.proofs.Lent.{length-tab}
 
 -- what is stored from the front on
 pub sets-over : (front l : List ℕ) → length front ≤ length l → sets l 0 front ≡ over front l
 sets-over front l h = rw zero-add at (sets-eq front l 0 (omega arith))
+
+-- what f gives of a part's length, written into a part that is lent
+pub sets-part : (f : ℕ → List ℕ) → ((k : ℕ) → length (f k) ≡ k) → (l : List ℕ) (at k : ℕ) {y : List ℕ} → at + k ≤ length l
+    → y ≡ f (length (take (at + k - at) (drop at l))) → take at l ++ (y ++ drop (at + k - at) (drop at l)) ≡ sets l at (f k)
+sets-part f long l at k h e =
+    let p : at + k - at ≡ k = omega arith in
+    let q : length (take k (drop at l)) ≡ k = length-take-le k (drop at l) (rw length-drop (omega arith)) in
+    rw (e, p, q, drop-drop, ← append-assoc) (sym (rw (long k) at (sets-eq (f k) l at (rw (long k) h))))
 
 -- one run behind the other
 pub sets-more : (l : List ℕ) (i : ℕ) (x y : List ℕ) → sets l i (x ++ y) ≡ sets (sets l i x) (i + length x) y

@@ -1,4 +1,5 @@
-//! One entry of the body, a binary64 by its bits, low byte first: where it stands, written and read.
+//! The entries of the body, each a binary64 by its bits, low byte first: how many bytes they take, where one stands, and
+//! one written and read.
 use crate::header::HEADER_LENGTH;
 use numbers::words::read_le;
 use numbers::words::write_le;
@@ -9,7 +10,7 @@ ghost use lib.Seq.{sets};
 ghost use Rattle.numbers.specs.Words.{lowWordOf, lowBytesOf};
 ghost use Rattle.layout.specs.Size.{maxRows};
 ghost use Rattle.elements.specs.Elements.{part};
-ghost use Rattle.npy.specs.File.{placeOf};
+ghost use Rattle.npy.specs.File.{bodyLength, placeOf};
 
 // Where entry (i, j) starts.
 pub(crate) fn place(rows: usize, i: usize, j: usize) -> usize
@@ -17,6 +18,14 @@ pub(crate) fn place(rows: usize, i: usize, j: usize) -> usize
     ensures { λ r. ⌜ r ≡ placeOf rows i j ⌝ }
 {
     HEADER_LENGTH + 8 * (i * rows + j)
+}
+
+// How long the body of so many rows is.
+pub(crate) fn body_length(rows: usize) -> usize
+    requires { ⌜ rows ≤ maxRows ⌝ }
+    ensures { λ r. ⌜ r ≡ bodyLength rows ⌝ }
+{
+    8 * (rows * rows)
 }
 
 // From a place on.

@@ -1,4 +1,5 @@
 //! Export: a matrix as a .npy file.
+use crate::entry::body_length;
 use crate::header::HEADER_LENGTH;
 use crate::header::put_header;
 use crate::write::put_body;
@@ -21,7 +22,7 @@ fn file_length(rows: usize) -> usize
     requires { ⌜ rows ≤ maxRows ⌝ }
     ensures { λ r. ⌜ r ≡ fileLength rows ⌝ }
 {
-    HEADER_LENGTH + 8 * (rows * rows)
+    HEADER_LENGTH + body_length(rows)
 }
 
 // N, the two counts, the room.

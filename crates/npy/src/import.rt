@@ -1,4 +1,5 @@
 //! Import: the matrix of a .npy file.
+use crate::entry::body_length;
 use crate::header::HEADER_LENGTH;
 use crate::header::break_in;
 use crate::header::size_in;
@@ -45,8 +46,7 @@ fn check_size(file: &[u8], n: u64) -> Check
             most: SdccFlp::MAX_ROWS,
         });
     }
-    let rows = n as usize;
-    let expected = 8 * (rows * rows);
+    let expected = body_length(n as usize);
     let got = file.len() - HEADER_LENGTH;
     if got != expected {
         return Check::Refused(Refusal::InvalidLength { expected, got });

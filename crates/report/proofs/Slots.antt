@@ -1,21 +1,17 @@
 -- The lines of the slots that stand in a list's front.
 -- Assumes nothing.
-use mathlib.Core.Path.{_≡_, refl, ap₂}
-use mathlib.Core.List.{List, _++_}
-use Prim.Native.Nat.{ℕ, zero, suc, _+_, _-_, _≤_, _<_}
+use mathlib.Core.Path.{_≡_}
+use mathlib.Core.List.{List}
+use Prim.Native.Nat.{ℕ, _+_, _-_, _≤_, _<_}
 use native.Mathlib.Omega.{arith}
 use lib.ListN.{take}
 use lib.Seq.{getD-take}
-use Rattle.answers.specs.Lent.{joined}
+use Rattle.answers.proofs.Joined.{joined-same}
 use Rattle.layout.specs.Triangle.{slotsOf, slotOf}
 use Rattle.layout.proofs.RowByRow.{row-by-row}
 use Rattle.report.specs.Lines.{rowLines, slotLines}
 
 -- a list's front that holds all slots gives the same lines
-joined-same : {f g : ℕ → List ℕ} (n : ℕ) → ((k : ℕ) → k < n → f k ≡ g k) → joined n f ≡ joined n g
-joined-same zero h = refl
-joined-same (suc n) h = ap₂ _++_ (joined-same n (λ k l. h k (omega arith))) (h n (omega arith))
-
 module _ (n m : ℕ) (cs ss : List ℕ) (h : slotsOf n ≤ m) where
   row-front : (i : ℕ) → i < n → rowLines n (take m cs) (take m ss) i ≡ rowLines n cs ss i
   row-front i l =

@@ -12,7 +12,7 @@ use Rattle.npy.proofs.import.check_file.Statement.{statement}
 use Rattle.npy.proofs.import.check_file.Tie as tie
 
 returns : tie.Need-returns
-returns c = 
+returns c =
     let f = c .before .before .before .before .args .file .now in
     stops (headerRule f) _ (c .before .before .check-header .ensures) (c .enum-told2 .given .1)
 
@@ -20,7 +20,7 @@ check-size-requires : tie.Need-check-size-requires
 check-size-requires c κs = header-held (c .before .before .before .before .args .file .now) (check-passed (c .enum-told .given .1) (c .before .before .check-header .ensures))
 
 returns-2 : tie.Need-returns-2
-returns-2 c = 
+returns-2 c =
     let s = c .before .before .before .before .before .before .before in
     let f = s .args .file .now in
     let h = c .before .before .before in
@@ -29,7 +29,7 @@ returns-2 c =
     ∙ sym (goes (headerRule f) (next (sizeRules f (sizeIn f)) p) (h .before .before .check-header .ensures) (h .enum-told .given .1))
 
 check-pairs-requires : tie.Need-check-pairs-requires
-check-pairs-requires c κs = 
+check-pairs-requires c κs =
     let s = c .before .before .before .before .before .before .before in
     let h = c .before .before .before in
     let k = size-held (s .args .file .now) (s .args .n) (check-passed (h .enum-told .given .1) (h .before .before .check-header .ensures))
@@ -37,7 +37,7 @@ check-pairs-requires c κs =
     (k .few, omega (arith, k .whole))
 
 returns-3 : tie.Need-returns-3
-returns-3 c = 
+returns-3 c =
     let d = c .before in
     let s = d .before .before .before .before .before .before .before in
     let f = s .args .file .now in

@@ -16,17 +16,17 @@ check-file-requires : tie.Need-check-file-requires
 check-file-requires c κs = c .before .pre
 
 returns : tie.Need-returns
-returns c = 
+returns c =
     let a = c .before .before .before .before .args in
     stops (fileRules (a .file .now)) _ (c .before .before .check-file .ensures) (c .enum-told2 .given .1)
 
 cast-corr-slots : tie.Need-cast-corr-slots
-cast-corr-slots c = 
+cast-corr-slots c =
     let s = c .before .before .before .before in
     omega (arith, s .pre, file-held (s .args .file .now) (check-passed (c .enum-told .given .1) (c .before .before .check-file .ensures)) .few)
 
 returns-2 : tie.Need-returns-2
-returns-2 c = 
+returns-2 c =
     let d = c .before .before in
     let s = d .before .before .before .before in
     let f = s .args .file .now in

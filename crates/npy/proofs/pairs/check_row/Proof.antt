@@ -30,19 +30,19 @@ place-requires-2 : tie.Need-place-requires-2 Inv-loop μ-loop
 place-requires-2 c κs = let s = c .before .before in (s .pre .0, omega (arith, s .pre .1), omega (arith, s .pre .1))
 
 loop-holds : tie.Need-loop-holds Inv-loop μ-loop
-loop-holds c = 
+loop-holds c =
     let e : c .before .before .before .args .i + 1 + 0 ≡ c .before .before .before .args .i + 1 = omega arith in
     (omega arith, rw e (c .before .place .ensures), rw e (c .place2 .ensures), refl)
 
 entry-at-requires : tie.Need-entry-at-requires Inv-loop μ-loop
-entry-at-requires c κs = 
+entry-at-requires c κs =
     let l = c .before .loop in
     let s = c .before .before .before .before .before in
     let a = s .args in
     omega (arith, s .pre .1, s .pre .2, l .inv .1, place-fits (a .rows) (a .i) (a .i + 1 + l .k) (s .pre .1) (omega arith))
 
 entry-at-requires-2 : tie.Need-entry-at-requires-2 Inv-loop μ-loop
-entry-at-requires-2 c κs = 
+entry-at-requires-2 c κs =
     let l = c .before .before .loop in
     let s = c .before .before .before .before .before .before in
     let a = s .args in
@@ -57,7 +57,7 @@ pair c =
     (rw (l .inv .1) at (c .before .entry-at .ensures), rw (l .inv .2) at (c .entry-at2 .ensures))
 
 returns : tie.Need-returns Inv-loop μ-loop
-returns c = 
+returns c =
     let l = c .before .before .before .before .loop in
     let a = c .before .before .before .before .before .before .before .before .args in
     let j = a .i + 1 + l .k in
@@ -66,7 +66,7 @@ returns c =
     (rw (ne-eqb (entryIn (a .file .now) (a .rows) (a .i) j) (entryIn (a .file .now) (a .rows) j (a .i)) (rw (pair (c .before) .0, pair (c .before) .1) at (c .if1 .taken))))
 
 add-along : tie.Need-add-along Inv-loop μ-loop
-add-along c = 
+add-along c =
     let l = c .before .before .before .before .loop in
     let s = c .before .before .before .before .before .before .before .before in
     omega (arith, l .inv .1, few-entries (s .args .rows) (s .args .i) (s .pre .0) (omega (arith, s .pre .1)))
@@ -75,24 +75,27 @@ mul-down : tie.Need-mul-down Inv-loop μ-loop
 mul-down c = omega (arith, c .before .before .before .before .before .before .before .before .pre .0)
 
 add-down : tie.Need-add-down Inv-loop μ-loop
-add-down c = 
+add-down c =
     let l = c .before .before .before .before .loop in
     let s = c .before .before .before .before .before .before .before .before in
     let j = s .args .i + 1 + l .k in
     omega (arith, l .inv .2, few-entries (s .args .rows) j (s .pre .0) (omega arith))
 
 loop-again : tie.Need-loop-again Inv-loop μ-loop
-loop-again c = 
+loop-again c =
     let l = c .before .before .before .before .loop in
     let a = c .before .before .before .before .before .before .before .before .args in
     let j = a .i + 1 + l .k in
     let e : a .i + 1 + (l .k + 1) ≡ j + 1 = omega arith in
-    let rule : ℕ → Answer = λ k. pairRule (a .file .now) (a .rows) (a .i) (a .i + 1 + k) in
-    (omega arith, rw (e, place-along) (omega (arith, l .inv .1)), rw (e, place-down (a .rows) j (a .i)) (omega (arith, l .inv .2)),
-    each-more rule (l .k) (l .inv .3) (rw (eq-eqb (entryIn (a .file .now) (a .rows) (a .i) j) (entryIn (a .file .now) (a .rows) j (a .i)) (rw (pair (c .before) .0, pair (c .before) .1) at (c .if1 .left)))))
+    let rule : ℕ → Answer = λ k. pairRule (a .file .now) (a .rows) (a .i) (a .i + 1 + k) in (
+      omega arith,
+      rw (e, place-along) (omega (arith, l .inv .1)),
+      rw (e, place-down (a .rows) j (a .i)) (omega (arith, l .inv .2)),
+      each-more rule (l .k) (l .inv .3) (rw (eq-eqb (entryIn (a .file .now) (a .rows) (a .i) j) (entryIn (a .file .now) (a .rows) j (a .i)) (rw (pair (c .before) .0, pair (c .before) .1) at (c .if1 .left)))),
+    )
 
 returns-2 : tie.Need-returns-2 Inv-loop μ-loop
-returns-2 c = 
+returns-2 c =
     let l = c .before .loop in
     let a = c .before .before .before .before .before .args in
     let e : l .k ≡ a .rows - 1 - a .i = omega arith in

@@ -56,10 +56,11 @@ loop-again : tie.Need-loop-again Inv-loop μ-loop
 loop-again c =
     let t = c .before .before .before .before in
     let l = t .before .loop in
-    let a = t .before .before .before .before .args in
-    (omega arith,
-    rw (l .inv .1) at (c .before .before .store-row .ensures) ∙ stored-row (a .file .now) (a .rows) (a .correlations .now) (l .i) (l .first) (l .inv .0) (l .inv .2),
-    carried t)
+    let a = t .before .before .before .before .args in (
+      omega arith,
+      rw (l .inv .1) at (c .before .before .store-row .ensures) ∙ stored-row (a .file .now) (a .rows) (a .correlations .now) (l .i) (l .first) (l .inv .0) (l .inv .2),
+      carried t,
+    )
 
 same-length : tie.Need-same-length Inv-loop μ-loop
 same-length c = long (c .before)

@@ -22,18 +22,18 @@ place-requires : tie.Need-place-requires Inv-loop μ-loop
 place-requires c κs = let s = c .before .before in (s .pre .0, omega arith, omega arith)
 
 loop-holds : tie.Need-loop-holds Inv-loop μ-loop
-loop-holds c = 
+loop-holds c =
     let s = c .before .before .before in
     (tab-none (s .args .rows) (λ i. entryIn (s .args .file .now) (s .args .rows) i i) (s .pre .2), c .place .ensures)
 
 entry-at-requires : tie.Need-entry-at-requires Inv-loop μ-loop
-entry-at-requires c κs = 
+entry-at-requires c κs =
     let l = c .before .loop in
     let s = c .before .before .before .before .before in
     omega (arith, s .pre .1, l .inv .1, place-fits (s .args .rows) (l .i) (l .i) (c .loop-test .taken) (c .loop-test .taken))
 
 slice-write-deviations : tie.Need-slice-write-deviations Inv-loop μ-loop
-slice-write-deviations c = 
+slice-write-deviations c =
     let a = c .before .before .before .before .before .before .args in
     tab-room (a .rows) (λ i. entryIn (a .file .now) (a .rows) i i) (c .before .before .loop .inv .0) (c .before .loop-test .taken)
 
@@ -44,24 +44,25 @@ add-at : tie.Need-add-at Inv-loop μ-loop
 add-at c = omega (arith, c .before .before .before .before .before .before .pre .0)
 
 add-at-2 : tie.Need-add-at-2 Inv-loop μ-loop
-add-at-2 c = 
+add-at-2 c =
     let l = c .before .before .loop in
     let s = c .before .before .before .before .before .before in
     omega (arith, s .pre .0, l .inv .1, few-entries (s .args .rows) (l .i) (s .pre .0) (omega arith))
 
 loop-again : tie.Need-loop-again Inv-loop μ-loop
-loop-again c = 
+loop-again c =
     let l = c .before .before .loop in
     let a = c .before .before .before .before .before .before .args in
-    let f : ℕ → ℕ = λ i. entryIn (a .file .now) (a .rows) i i in
-    (tab-more (a .rows) f (l .inv .0) (c .before .loop-test .taken) (rw (l .inv .1) at (c .entry-at .ensures)),
-    rw (place-along, place-down) (omega (arith, l .inv .1)))
+    let f : ℕ → ℕ = λ i. entryIn (a .file .now) (a .rows) i i in (
+      tab-more (a .rows) f (l .inv .0) (c .before .loop-test .taken) (rw (l .inv .1) at (c .entry-at .ensures)),
+      rw (place-along, place-down) (omega (arith, l .inv .1)),
+    )
 
 same-length : tie.Need-same-length Inv-loop μ-loop
 same-length c = c .before .loop .inv .0 .long
 
 returns : tie.Need-returns Inv-loop μ-loop
-returns c = 
+returns c =
     let a = c .before .before .before .before .before .args in
     tab-done (a .rows) (λ i. entryIn (a .file .now) (a .rows) i i) (c .before .loop .inv .0) (c .loop-test .left)
 

@@ -48,13 +48,13 @@ place-requires : tie.Need-place-requires Inv-loop μ-loop
 place-requires c κs = let s = c .before .before in (s .pre .0, omega (arith, s .pre .1), omega (arith, s .pre .1))
 
 loop-holds : tie.Need-loop-holds Inv-loop μ-loop
-loop-holds c = 
+loop-holds c =
     let i = c .before .before .before .args .i in
     let e : i + 1 + 0 ≡ i + 1 = omega arith in
     (omega arith, refl, rw e (c .place .ensures))
 
 entry-at-requires : tie.Need-entry-at-requires Inv-loop μ-loop
-entry-at-requires c κs = 
+entry-at-requires c κs =
     let l = c .before .loop in
     let s = c .before .before .before .before .before in
     let a = s .args in
@@ -70,20 +70,21 @@ slice-write-correlations : tie.Need-slice-write-correlations Inv-loop μ-loop
 slice-write-correlations c = inside (c .before)
 
 add-at : tie.Need-add-at Inv-loop μ-loop
-add-at c = 
+add-at c =
     let l = c .before .before .loop in
     let s = c .before .before .before .before .before .before in
     omega (arith, l .inv .2, few-entries (s .args .rows) (s .args .i) (s .pre .0) (omega (arith, s .pre .1)))
 
 loop-again : tie.Need-loop-again Inv-loop μ-loop
-loop-again c = 
+loop-again c =
     let l = c .before .before .loop in
     let a = c .before .before .before .before .before .before .args in
     let e : a .i + 1 + (l .k + 1) ≡ a .i + 1 + l .k + 1 = omega arith in
-    let f : ℕ → ℕ = λ k. entryIn (a .file .now) (a .rows) (a .i) (a .i + 1 + k) in
-    (omega arith,
-    rw (l .inv .1, rw (l .inv .2) at (c .entry-at .ensures)) (sets-tab (a .correlations .now) (a .first) (l .k) f),
-    rw (e, place-along) (omega (arith, l .inv .2)))
+    let f : ℕ → ℕ = λ k. entryIn (a .file .now) (a .rows) (a .i) (a .i + 1 + k) in (
+      omega arith,
+      rw (l .inv .1, rw (l .inv .2) at (c .entry-at .ensures)) (sets-tab (a .correlations .now) (a .first) (l .k) f),
+      rw (e, place-along) (omega (arith, l .inv .2)),
+    )
 
 same-length : tie.Need-same-length Inv-loop μ-loop
 same-length c =
@@ -92,7 +93,7 @@ same-length c =
     ap length (l .inv .1) ∙ length-sets (a .correlations .now) (a .first) (tab (l .k) (λ k. entryIn (a .file .now) (a .rows) (a .i) (a .i + 1 + k)))
 
 returns : tie.Need-returns Inv-loop μ-loop
-returns c = 
+returns c =
     let l = c .before .loop in
     let a = c .before .before .before .before .before .args in
     let e : l .k ≡ a .rows - 1 - a .i = omega arith in
