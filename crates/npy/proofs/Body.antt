@@ -12,10 +12,10 @@ use Rattle.answers.proofs.Joined.{length-joined, joined-around, joined-same}
 use Rattle.numbers.specs.Words.{lowBytesOf}
 use Rattle.numbers.proofs.Low.{length-low}
 use Rattle.layout.specs.Triangle.{slotOf}
-use Rattle.npy.specs.Header.{maxSize}
+use Rattle.npy_header.specs.Header.{maxSize}
 use Rattle.npy.specs.File.{bodyLength, fileLength, entryOf, entryBytes, rowBytes, bodyOf, fileOf}
 use Rattle.npy.specs.Parts.{slotBytes, leftBytes, rightBytes}
-use Rattle.npy.proofs.Headers.{length-header}
+use Rattle.npy_header.proofs.Headers.{length-header}
 
 -- ---- lengths
 module _ (n : ℕ) (cs : List ℕ) (i : ℕ) where

@@ -18,9 +18,9 @@ use Rattle.numbers.proofs.Low.{length-low, low-word-of-bytes}
 use Rattle.layout.specs.Triangle.{slotOf, IsPair}
 use Rattle.layout.proofs.RowByRow.{row-along}
 use Rattle.elements.specs.Elements.{part}
-use Rattle.npy.specs.Header.{header, maxSize}
+use Rattle.npy_header.specs.Header.{header, maxSize}
 use Rattle.npy.specs.File.{entryOf, entryBytes, rowBytes, bodyOf, fileOf, placeOf, entryIn, rowIn, correlationsIn}
-use Rattle.npy.proofs.Headers.{length-header}
+use Rattle.npy_header.proofs.Headers.{length-header}
 use Rattle.npy.proofs.Matrix.{length-rows}
 
 -- the parts of a list, one behind the other

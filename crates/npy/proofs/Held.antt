@@ -1,34 +1,21 @@
 -- What is known of a file whose rules pass: its header is whole, N is within the limit, and its body is as long as N says.
 -- Assumes nothing.
-use mathlib.Core.Path.{_≡_, refl, sym, ap}
-use mathlib.Core.Bool.{Bool, true, false}
-use mathlib.Core.List.{List, [], _∷_}
-use Prim.Native.Nat.{ℕ, suc, _-_, _≤_}
+use mathlib.Core.Path.{_≡_}
+use mathlib.Core.List.{List}
+use Prim.Native.Nat.{ℕ, _-_, _≤_}
 use native.Mathlib.Omega.{arith}
-use borrow.Author.Tests.{ltb-false, eqb-true, eqb-false}
-use lib.Dec.{eqb, ltb}
 use lib.ListN.{length}
-use Rattle.answers.specs.Table.{Answer, pick, passes, next}
-use Rattle.answers.proofs.Next.{next-zero, unheld}
-use Rattle.answers.proofs.Rules.{picked}
+use Rattle.answers.specs.Table.{next}
+use Rattle.answers.proofs.Next.{next-zero}
 use Rattle.layout.specs.Size.{maxRows, limitRule}
-use Rattle.npy.specs.Header.{headerLength, header, sizeIn, breakOf, breakIn}
+use Rattle.npy_header.specs.Header.{headerLength, sizeIn}
+use Rattle.npy_header.specs.Rules.{headerRule}
+use Rattle.npy_header.proofs.Held.{header-held}
 use Rattle.npy.specs.File.{bodyLength, fileLength}
-use Rattle.npy.specs.Rules.{countRule, headerRule, sizeRules, pairRules, fileRules}
+use Rattle.npy.specs.Rules.{countRule, sizeRules, pairRules, fileRules}
 use Rattle.npy.proofs.Passed.{limit-tells, count-tells}
 
--- no break lies behind the file's end
-break-le : (h file : List ℕ) → breakOf h file ≤ length file
-break-le [] file = omega arith
-break-le (x ∷ h) [] = omega arith
-break-le (x ∷ h) (b ∷ file) =
-    picked (λ (k : ℕ). k ≤ suc (length file)) (eqb x b) (suc (breakOf h file)) 0 (λ _. omega (arith, break-le h file)) (λ _. omega arith)
-
 module _ (file : List ℕ) where
-  pub header-held : headerRule file .number ≡ 0 → headerLength ≤ length file
-  unfolding breakIn
-  header-held z = omega (arith, ltb-false (breakIn file) headerLength (unheld _ _ refl z), break-le (header (sizeIn file)) file)
-
   pub record Held (n : ℕ) : Type 0 where
     pub few : n ≤ maxRows
     pub whole : length file ≡ fileLength n
@@ -38,7 +25,7 @@ module _ (file : List ℕ) where
       let p = next-zero (limitRule n) (countRule (bodyLength n) (length file - headerLength)) z in
       record {
         few = limit-tells n .done (p .0);
-        whole = omega (arith, header-held h, count-tells (bodyLength n) (length file - headerLength) .done (p .1));
+        whole = omega (arith, header-held file h, count-tells (bodyLength n) (length file - headerLength) .done (p .1));
       }
 
   pub file-held : fileRules file .number ≡ 0 → Held (sizeIn file)

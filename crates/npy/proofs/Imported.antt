@@ -16,7 +16,7 @@ use Rattle.layout.specs.Size.{maxRows}
 use Rattle.layout.specs.Triangle.{slotsOf}
 use Rattle.rules.specs.Rules.{roomsRule}
 use Rattle.rules.proofs.Held.{Rooms, rooms-for}
-use Rattle.npy.specs.Header.{sizeIn}
+use Rattle.npy_header.specs.Header.{sizeIn}
 use Rattle.npy.specs.File.{fileLength, deviationsIn, correlationsIn, statesIn}
 use Rattle.npy.specs.Rules.{fileRules, importRules, importAnswer}
 use Rattle.npy.specs.Left.{leftDeviations, leftCorrelations, leftStates}

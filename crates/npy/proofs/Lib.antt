@@ -1,8 +1,3 @@
-pub mod Headers
-pub mod Digits
-pub mod Spelled
-pub mod Breaks
-pub mod Examples
 pub mod Places
 pub mod Body
 pub mod Put

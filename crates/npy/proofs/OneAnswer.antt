@@ -7,7 +7,7 @@ use Rattle.answers.specs.OneAnswer.{OneAnswer}
 use Rattle.answers.specs.Lent.{leaves}
 use Rattle.answers.proofs.OneToOne.{writer-one}
 use Rattle.reader.proofs.OneAnswer.{reads-one}
-use Rattle.npy.specs.Header.{sizeIn}
+use Rattle.npy_header.specs.Header.{sizeIn}
 use Rattle.npy.specs.File.{fileOf, deviationsIn, correlationsIn, statesIn}
 use Rattle.npy.proofs.export.export_npy.Reads as export-npy
 use Rattle.npy.proofs.import.import_npy.Reads as import-npy

@@ -10,10 +10,10 @@ use Rattle.answers.specs.Lent.{over}
 use Rattle.answers.proofs.Stored.{sets-more, sets-over}
 use Rattle.numbers.specs.Words.{lowBytesOf}
 use Rattle.layout.specs.Size.{maxRows}
-use Rattle.npy.specs.Header.{headerLength, header}
+use Rattle.npy_header.specs.Header.{headerLength, header}
 use Rattle.npy.specs.File.{fileLength, rowBytes, bodyOf, fileOf}
 use Rattle.npy.specs.Parts.{leftBytes, rightBytes}
-use Rattle.npy.proofs.Headers.{length-header}
+use Rattle.npy_header.proofs.Headers.{length-header}
 use Rattle.npy.proofs.Body.{length-left, length-file, row-parts}
 
 three : (l : List ℕ) (at : ℕ) (x y z : List ℕ)

@@ -9,7 +9,7 @@ use Rattle.answers.specs.Lent.{tab, joined}
 use Rattle.numbers.specs.Words.{lowWordOf, lowBytesOf}
 use Rattle.layout.specs.Triangle.{slotsOf, slotOf}
 use Rattle.elements.specs.Elements.{part}
-use Rattle.npy.specs.Header.{headerLength, header}
+use Rattle.npy_header.specs.Header.{headerLength, header}
 
 abbrev pub bodyLength : ℕ → ℕ
 bodyLength n = 8 * (n * n)

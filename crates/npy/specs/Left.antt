@@ -3,7 +3,7 @@ use Prim.Native.Nat.{ℕ}
 use mathlib.Core.List.{List}
 use Rattle.answers.specs.Table.{Answer}
 use Rattle.answers.specs.Lent.{leaves}
-use Rattle.npy.specs.Header.{sizeIn}
+use Rattle.npy_header.specs.Header.{sizeIn}
 use Rattle.npy.specs.File.{deviationsIn, correlationsIn, statesIn}
 
 module _ (a : Answer) (file lent : List ℕ) where

@@ -1,13 +1,14 @@
 -- Document 02, K8: what export and import refuse, in its order, and what they answer otherwise.
 use Prim.Native.Nat.{ℕ, _+_, _-_}
 use mathlib.Core.List.{List, [], _∷_}
-use lib.Dec.{eqb, ltb}
+use lib.Dec.{eqb}
 use lib.ListN.{length}
 use Rattle.answers.specs.Table.{Answer, answer, wholes, pick, passes, next, each, roomRule}
 use Rattle.layout.specs.Size.{limitRule}
 use Rattle.layout.specs.Triangle.{slotsOf}
 use Rattle.rules.specs.Rules.{roomsRule}
-use Rattle.npy.specs.Header.{headerLength, sizeIn, breakIn}
+use Rattle.npy_header.specs.Header.{headerLength, sizeIn}
+use Rattle.npy_header.specs.Rules.{headerRule}
 use Rattle.npy.specs.File.{bodyLength, fileLength, entryIn}
 
 -- a count that is not the one expected: 2 with both
@@ -25,13 +26,6 @@ abbrev pub exportAnswer : ℕ → ℕ → ℕ → ℕ → Answer
 exportAnswer n ds cs room = next (exportRules n ds cs room) (answer 0 (wholes (fileLength n ∷ [])))
 
 -- ---- import
--- the first byte that breaks the header: 11 with its offset
-abbrev pub brokenAt : ℕ → Answer
-brokenAt at = answer 11 (wholes (at ∷ []))
-
-abbrev pub headerRule : List ℕ → Answer
-headerRule file = pick (ltb (breakIn file) headerLength) (brokenAt (breakIn file)) passes
-
 -- two entries that differ in any bit: 12 with i, j
 abbrev pub pairRule : List ℕ → ℕ → ℕ → ℕ → Answer
 pairRule file n i j =

@@ -10,7 +10,7 @@ use Rattle.layout.specs.declared.pack.SdccFlp.{SdccFlp}
 use Rattle.layout.specs.Size.{maxRows}
 use Rattle.layout.specs.Triangle.{slotsOf, slotOf, IsPair}
 use Rattle.matrix.specs.Lookup.{number, cellAnswer}
-use Rattle.npy.specs.Header.{sizeIn}
+use Rattle.npy_header.specs.Header.{sizeIn}
 use Rattle.npy.specs.File.{fileLength, fileOf, entryIn, deviationsIn, correlationsIn, statesIn}
 use Rattle.npy.specs.Rules.{exportAnswer, importAnswer}
 

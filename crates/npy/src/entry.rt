@@ -1,6 +1,6 @@
 //! The entries of the body, each a binary64 by its bits, low byte first: how many bytes they take, where one stands, and
 //! one written and read.
-use crate::header::HEADER_LENGTH;
+use npy_header::header::HEADER_LENGTH;
 use numbers::words::read_le;
 use numbers::words::write_le;
 ghost use mathlib.Core.Path.{_≡_};

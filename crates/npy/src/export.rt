@@ -1,13 +1,13 @@
 //! Export: a matrix as a .npy file.
 use crate::entry::body_length;
-use crate::header::HEADER_LENGTH;
-use crate::header::put_header;
 use crate::write::put_body;
 use answers::Check;
 use answers::Refusal;
 use answers::Written;
 use layout::pack::SdccFlp;
 use layout::triangle::corr_slots;
+use npy_header::header::HEADER_LENGTH;
+use npy_header::header::write_header;
 ghost use mathlib.Core.Path.{_≡_};
 ghost use Prim.Native.Nat.{_≤_};
 ghost use lib.ListN.{length};
@@ -70,7 +70,7 @@ pub fn export_npy(n: u64, deviations: &[u64], correlations: &[u64], out: &mut [u
         return Written::Refused(refusal);
     }
     let rows = n as usize;
-    put_header(n, out);
+    write_header(n, out);
     put_body(rows, deviations, correlations, out);
     Written::Done(file_length(rows))
 }

@@ -1,8 +1,5 @@
 //! Import: the matrix of a .npy file.
 use crate::entry::body_length;
-use crate::header::HEADER_LENGTH;
-use crate::header::break_in;
-use crate::header::size_in;
 use crate::pairs::check_pairs;
 use crate::store::store_correlations;
 use crate::store::store_deviations;
@@ -11,6 +8,9 @@ use answers::Check;
 use answers::Refusal;
 use layout::pack::SdccFlp;
 use layout::triangle::corr_slots;
+use npy_header::check::check_header;
+use npy_header::check::size_in;
+use npy_header::header::HEADER_LENGTH;
 use reader::read::ReadAnswer;
 use rules::rooms::check_rooms_for;
 ghost use mathlib.Core.Path.{_≡_};
@@ -19,20 +19,9 @@ ghost use lib.ListN.{length};
 ghost use Rattle.answers.specs.Listed.{checked};
 ghost use Rattle.layout.specs.Triangle.{slotsOf};
 ghost use Rattle.reader.specs.Listed.{readListed};
-ghost use Rattle.npy.specs.Header.{headerLength, sizeIn};
-ghost use Rattle.npy.specs.Rules.{headerRule, sizeRules, fileRules, importRules, importAnswer};
+ghost use Rattle.npy_header.specs.Header.{headerLength, sizeIn};
+ghost use Rattle.npy.specs.Rules.{sizeRules, fileRules, importRules, importAnswer};
 ghost use Rattle.npy.specs.Left.{leftDeviations, leftCorrelations, leftStates};
-
-// The header, by its first break.
-fn check_header(file: &[u8]) -> Check
-    ensures { λ r. ⌜ checked r ≡ headerRule (now (file .entry)) ⌝ }
-{
-    let offset = break_in(file);
-    if offset < HEADER_LENGTH {
-        return Check::Refused(Refusal::MalformedHeader { offset });
-    }
-    Check::Passes
-}
 
 // N, and the body's length.
 fn check_size(file: &[u8], n: u64) -> Check

@@ -1,7 +1,6 @@
 //! Matrices to and from NumPy's .npy files.
 mod entry;
 pub mod export;
-mod header;
 pub mod import;
 mod pairs;
 mod store;

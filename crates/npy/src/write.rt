@@ -1,12 +1,12 @@
 //! The body of a file, written row by row: each slot stands in it twice.
 use crate::entry::put_entry;
-use crate::header::HEADER_LENGTH;
+use npy_header::header::HEADER_LENGTH;
 ghost use mathlib.Core.Path.{_≡_};
 ghost use Prim.Native.Nat.{_+_, _-_, _*_, _≤_, _<_};
 ghost use lib.ListN.{length};
 ghost use lib.Seq.{sets};
 ghost use Rattle.layout.specs.Triangle.{slotsOf, slotOf};
-ghost use Rattle.npy.specs.Header.{headerLength};
+ghost use Rattle.npy_header.specs.Header.{headerLength};
 ghost use Rattle.npy.specs.File.{fileLength, rowBytes, bodyOf};
 ghost use Rattle.npy.specs.Parts.{leftBytes, rightBytes};
 

@@ -6,11 +6,13 @@ use Prim.Native.Nat.{ℕ}
 use native.Mathlib.Omega.{arith}
 use borrow.Author.Needs.{needs}
 use lib.ListN.{length}
-use lib.Seq.{length-sets}
+use lib.Seq.{sets, length-sets}
 use Rattle.answers.specs.Table.{Answer, answer, wholes, passes}
 use Rattle.answers.specs.Listed.{checked}
 use Rattle.answers.proofs.Lent.{refused-leaves}
 use Rattle.answers.proofs.Next.{stops}
+use Rattle.npy_header.specs.Header.{header}
+use Rattle.npy_header.proofs.Headers.{header-over}
 use Rattle.npy.specs.File.{fileLength, fileOf}
 use Rattle.npy.specs.Rules.{exportRules}
 use Rattle.npy.proofs.Put.{file-stored}
@@ -51,14 +53,19 @@ told c =
     let s = c .before .before .before .before .before .before in
     exports (s .args .n) (length (ds s)) (length (cs s)) (length (out s)) (sym (ap (λ (a : Answer). a .number) (passed c)))
 
-put-header-requires : tie.Need-put-header-requires
-put-header-requires c κs = let t = told (c .before) in (omega (arith, t .few), omega (arith, t .fits))
+-- the header stands at the front
+headed : (c : tie.After-write-header) → let s = c .before .before .before .before .before .before .before .before in
+    c .write-header .last .1 .0 ≡ sets (out s) 0 (header (s .args .n))
+headed c =
+    let t = told (c .before .before) in
+    let s = c .before .before .before .before .before .before .before .before in
+    header-over (s .args .n) (omega (arith, t .few)) (out s) (omega (arith, t .fits)) (c .write-header .result) (c .write-header .ensures .0) (c .write-header .ensures .1)
 
 put-body-requires : tie.Need-put-body-requires
 put-body-requires c κs =
     let h = c .before .before .before in
     let t = told (h .before .before) in
-    (omega (arith, t .rows), omega (arith, t .slots), rw (h .put-header .ensures, length-sets) (t .fits))
+    (omega (arith, t .rows), omega (arith, t .slots), rw (headed h, length-sets) (t .fits))
 
 file-length-requires : tie.Need-file-length-requires
 file-length-requires c κs = told (c .before .before .before .before .before .before .before .before) .few
@@ -71,7 +78,7 @@ returns-2 c =
     let s = o .before .before .before .before .before .before in
     let t = told o in (
       rw (← (passed o), c .file-length .ensures),
-      file-stored (s .args .n) (ds s) (cs s) (t .few) (out s) (t .fits) (h .put-header .ensures) (b .put-body .ensures),
+      file-stored (s .args .n) (ds s) (cs s) (t .few) (out s) (t .fits) (headed h) (b .put-body .ensures),
     )
 
 pub export-npy-spec : {M : Type 1} → statement M
@@ -82,7 +89,7 @@ export-npy-spec =
     (λ c. search needs)
     returns
     (λ c. search needs)
-    put-header-requires
+    (λ c κs. search needs)
     put-body-requires
     file-length-requires
     (λ c. search needs)

@@ -3,7 +3,7 @@
 use mathlib.Core.Path.{ap}
 use Prim.Native.Nat.{ℕ, _+_}
 use native.Mathlib.Omega.{arith}
-use Rattle.npy.specs.Header.{headerLength}
+use Rattle.npy_header.specs.Header.{headerLength}
 use Rattle.npy.proofs.Places.{few-entries}
 use Rattle.npy.proofs.export.file_length.Statement.{statement}
 use Rattle.npy.proofs.export.file_length.Tie as tie

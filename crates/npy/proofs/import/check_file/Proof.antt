@@ -5,9 +5,11 @@ use native.Mathlib.Omega.{arith}
 use borrow.Author.Needs.{needs}
 use Rattle.answers.specs.Table.{Answer, next}
 use Rattle.answers.proofs.Next.{check-passed, stops, goes}
-use Rattle.npy.specs.Header.{sizeIn}
-use Rattle.npy.specs.Rules.{headerRule, sizeRules, pairRules}
-use Rattle.npy.proofs.Held.{header-held, size-held}
+use Rattle.npy_header.specs.Header.{sizeIn}
+use Rattle.npy_header.specs.Rules.{headerRule}
+use Rattle.npy_header.proofs.Held.{header-held}
+use Rattle.npy.specs.Rules.{sizeRules, pairRules}
+use Rattle.npy.proofs.Held.{size-held}
 use Rattle.npy.proofs.import.check_file.Statement.{statement}
 use Rattle.npy.proofs.import.check_file.Tie as tie
 

@@ -6,7 +6,7 @@ use borrow.Author.Needs.{needs}
 use Rattle.answers.proofs.Next.{check-passed, stops, goes}
 use Rattle.layout.specs.Triangle.{slotsOf}
 use Rattle.rules.specs.Rules.{roomsRule}
-use Rattle.npy.specs.Header.{sizeIn}
+use Rattle.npy_header.specs.Header.{sizeIn}
 use Rattle.npy.specs.Rules.{fileRules}
 use Rattle.npy.proofs.Held.{file-held}
 use Rattle.npy.proofs.import.check_import.Statement.{statement}

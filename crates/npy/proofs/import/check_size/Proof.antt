@@ -6,7 +6,7 @@ use borrow.Author.Needs.{needs}
 use borrow.Author.Tests.{lt-ltb, le-ltb, eq-eqb, ne-eqb}
 use lib.ListN.{length}
 use Rattle.layout.specs.Size.{maxRows}
-use Rattle.npy.specs.Header.{headerLength}
+use Rattle.npy_header.specs.Header.{headerLength}
 use Rattle.npy.specs.File.{bodyLength}
 use Rattle.npy.proofs.import.check_size.Statement.{statement}
 use Rattle.npy.proofs.import.check_size.Tie as tie

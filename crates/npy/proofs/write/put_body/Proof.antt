@@ -8,7 +8,7 @@ use lib.ListN.{length}
 use Rattle.answers.proofs.Runs.{Run, run-none, run-room, run-more, run-done}
 use Rattle.layout.specs.Triangle.{slotOf}
 use Rattle.layout.proofs.RowByRow.{row-first, row-next, row-within}
-use Rattle.npy.specs.Header.{headerLength}
+use Rattle.npy_header.specs.Header.{headerLength}
 use Rattle.npy.specs.File.{rowBytes, bodyOf}
 use Rattle.npy.proofs.Body.{length-row, length-body}
 use Rattle.npy.proofs.write.put_body.Statement.{statement}

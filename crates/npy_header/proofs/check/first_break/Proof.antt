@@ -1,11 +1,11 @@
--- `header::first_break` meets its contract. The invariant: what is left of both breaks where all of them does.
+-- `check::first_break` meets its contract. The invariant: what is left of both breaks where all of them does.
 -- Assumes nothing.
 use Prim.Native.Nat.{_-_}
 use borrow.Author.Needs.{needs}
 use lib.ListN.{length}
-use Rattle.npy.proofs.Headers.{Held, held-none, held-short, held-differs, held-more, held-done}
-use Rattle.npy.proofs.header.first_break.Statement.{statement}
-use Rattle.npy.proofs.header.first_break.Tie as tie
+use Rattle.npy_header.proofs.Headers.{Held, held-none, held-short, held-differs, held-more, held-done}
+use Rattle.npy_header.proofs.check.first_break.Statement.{statement}
+use Rattle.npy_header.proofs.check.first_break.Tie as tie
 
 abbrev Inv-loop : tie.InvT-loop
 Inv-loop header file i₀ i = Held header file i

@@ -1,10 +1,10 @@
--- `import::check_header` meets its contract.
+-- `check::check_header` meets its contract.
 -- Assumes nothing.
 use borrow.Author.Needs.{needs}
 use borrow.Author.Tests.{lt-ltb, le-ltb}
-use Rattle.npy.specs.Header.{headerLength, breakIn}
-use Rattle.npy.proofs.import.check_header.Statement.{statement}
-use Rattle.npy.proofs.import.check_header.Tie as tie
+use Rattle.npy_header.specs.Header.{headerLength, breakIn}
+use Rattle.npy_header.proofs.check.check_header.Statement.{statement}
+use Rattle.npy_header.proofs.check.check_header.Tie as tie
 
 returns : tie.Need-returns
 returns c =

@@ -14,12 +14,12 @@ use Rattle.answers.proofs.Rules.{picked}
 use Rattle.text.specs.Numeral.{digitAt}
 use Rattle.text.proofs.Figures.{length-decimal}
 use Rattle.text.proofs.Order.{lt-or-le}
-use Rattle.npy.specs.Header.{headerLength, front, header, maxSize, sizeIn, breakOf, breakIn}
-use Rattle.npy.specs.Rules.{brokenAt, headerRule}
-use Rattle.npy.specs.Breaks.{Starts, Breaks, Headed, HeaderRead}
-use Rattle.npy.proofs.Headers.{length-header}
-use Rattle.npy.proofs.Digits.{digits-of}
-use Rattle.npy.proofs.Spelled.{endOf, Spells, header-split, header-spells, size-spelled, spelled-size, size-small}
+use Rattle.npy_header.specs.Header.{headerLength, front, header, maxSize, sizeIn, breakOf, breakIn}
+use Rattle.npy_header.specs.Rules.{brokenAt, headerRule}
+use Rattle.npy_header.specs.Breaks.{Starts, Breaks, Headed, HeaderRead}
+use Rattle.npy_header.proofs.Headers.{length-header}
+use Rattle.npy_header.proofs.Digits.{digits-of}
+use Rattle.npy_header.proofs.Spelled.{endOf, Spells, header-split, header-spells, size-spelled, spelled-size, size-small}
 
 -- ---- the first byte of a file that differs from a header's or is missing
 -- those before it stand in both, and are the same

@@ -1,11 +1,11 @@
--- `header::break_in` meets its contract: the room is the header of the file's own N, and the file is held to it.
+-- `check::break_in` meets its contract: the room is the header of the file's own N, and the file is held to it.
 -- Assumes nothing.
 use mathlib.Core.Path.{_∙_}
 use borrow.Author.Needs.{needs}
-use Rattle.npy.specs.Header.{breakIn}
-use Rattle.npy.proofs.Headers.{header-filled}
-use Rattle.npy.proofs.header.break_in.Statement.{statement}
-use Rattle.npy.proofs.header.break_in.Tie as tie
+use Rattle.npy_header.specs.Header.{breakIn}
+use Rattle.npy_header.proofs.Headers.{header-filled}
+use Rattle.npy_header.proofs.check.break_in.Statement.{statement}
+use Rattle.npy_header.proofs.check.break_in.Tie as tie
 
 returns : tie.Need-returns
 unfolding breakIn

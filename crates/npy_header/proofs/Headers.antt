@@ -1,7 +1,7 @@
 -- Laws of the header: how long it is, and what a turn of each loop over it leaves to do.
 -- Assumes nothing.
-use mathlib.Core.Path.{_≡_, refl, ap, _∙_}
-use mathlib.Core.List.{List, append-nil}
+use mathlib.Core.Path.{_≡_, refl, sym, ap, _∙_}
+use mathlib.Core.List.{List, [], _∷_, append-nil}
 use Prim.Native.Nat.{ℕ, suc, _+_, _-_, _*_, _^_, _≤_, _<_}
 use native.Mathlib.Nat.{zero-add, pow-suc, pow-le-pow-right}
 use native.Mathlib.Numerals.{add-one}
@@ -9,7 +9,10 @@ use native.Mathlib.Omega.{arith}
 use borrow.Author.Tests.{lt-ltb, le-ltb, eq-eqb, ne-eqb}
 use lib.ListN.{length, drop, getD, set, length-append, drop-of-length-le}
 use lib.Seq.{sets, length-sets, drop-cons}
-use Rattle.answers.specs.Lent.{tab}
+use Rattle.answers.specs.declared.Written.{Written}
+use Rattle.answers.specs.Table.{answer, wholes}
+use Rattle.answers.specs.Listed.{written}
+use Rattle.answers.specs.Lent.{leaves, tab}
 use Rattle.answers.proofs.Lent.{length-tab}
 use Rattle.answers.proofs.Stored.{sets-over, sets-more, sets-tab}
 use Rattle.text.specs.Put.{Put}
@@ -17,7 +20,8 @@ use Rattle.text.specs.Text.{decimal}
 use Rattle.text.specs.Numeral.{digitAt}
 use Rattle.text.proofs.Figures.{length-decimal}
 use Rattle.text.proofs.Pieces.{put-long, put-whole}
-use Rattle.npy.specs.Header.{headerLength, described, padding, header, maxSize, numberFrom, sizeIn, breakOf}
+use Rattle.npy_header.specs.Header.{headerLength, described, padding, header, maxSize, numberFrom, sizeIn, breakOf}
+use Rattle.npy_header.specs.Rules.{headerWritten}
 
 -- ---- how long
 pub length-described : (n : ℕ) → length (described n) ≡ 67 + 2 * length (decimal n)
@@ -47,6 +51,15 @@ module _ {n : ℕ} {l : List ℕ} {r : ℕ} {m : List ℕ} (h : n ≤ maxSize) (
   pub header-stored : {o : List ℕ} → o ≡ sets m r (padding r) → o ≡ sets l 0 (header n)
   unfolding header
   header-stored e = rw (sets-more, ← p .stored, zero-add, ← behind) e
+
+-- ---- written where N has nine digits at most and there is room
+pub header-passes : (n room : ℕ) → n ≤ maxSize → headerLength ≤ room → headerWritten n room ≡ answer 0 (wholes (headerLength ∷ []))
+header-passes n room h k = rw (le-ltb maxSize n h, le-ltb room headerLength k)
+
+pub header-over : (n : ℕ) → n ≤ maxSize → (l : List ℕ) {m : List ℕ} → headerLength ≤ length l → (r : Written) → written r ≡ headerWritten n (length l)
+    → m ≡ leaves (written r) (header n) l → m ≡ sets l 0 (header n)
+header-over n h l k r e p =
+    rw (e ∙ header-passes n (length l) h k) at p ∙ sym (sets-over (header n) l (rw (length-header n h) k))
 
 -- it fills a room of its length
 pub header-filled : (n : ℕ) → n ≤ maxSize → (l : List ℕ) → headerLength ≡ length l → sets l 0 (header n) ≡ header n

@@ -1,11 +1,11 @@
--- `header::size_in` meets its contract. The invariant: what is left to take, behind n, spells the size.
+-- `check::size_in` meets its contract. The invariant: what is left to take, behind n, spells the size.
 -- Assumes nothing.
 use Prim.Native.Nat.{_-_}
 use native.Mathlib.Omega.{arith}
 use borrow.Author.Needs.{needs}
-use Rattle.npy.proofs.Headers.{Sizing, sizing-none, sizing-small, sizing-end, sizing-zero, sizing-more, sizing-done}
-use Rattle.npy.proofs.header.size_in.Statement.{statement}
-use Rattle.npy.proofs.header.size_in.Tie as tie
+use Rattle.npy_header.proofs.Headers.{Sizing, sizing-none, sizing-small, sizing-end, sizing-zero, sizing-more, sizing-done}
+use Rattle.npy_header.proofs.check.size_in.Statement.{statement}
+use Rattle.npy_header.proofs.check.size_in.Tie as tie
 
 abbrev Inv-loop : tie.InvT-loop
 Inv-loop file n₀ i₀ n i = Sizing file n i

@@ -1,9 +1,9 @@
 -- `header::put_header` meets its contract: the padding behind the description, which leaves room for it.
 -- Assumes nothing.
 use borrow.Author.Needs.{needs}
-use Rattle.npy.proofs.Headers.{described-room, header-stored}
-use Rattle.npy.proofs.header.put_header.Statement.{statement}
-use Rattle.npy.proofs.header.put_header.Tie as tie
+use Rattle.npy_header.proofs.Headers.{described-room, header-stored}
+use Rattle.npy_header.proofs.header.put_header.Statement.{statement}
+use Rattle.npy_header.proofs.header.put_header.Tie as tie
 
 pad-requires : tie.Need-pad-requires
 pad-requires c κs =

@@ -5,8 +5,8 @@ use mathlib.Core.List.{List}
 use mathlib.Core.Logic.{_↔_}
 use lib.ListN.{length, take}
 use Rattle.answers.specs.Table.{passes}
-use Rattle.npy.specs.Header.{headerLength, header, maxSize, sizeIn}
-use Rattle.npy.specs.Rules.{brokenAt, headerRule}
+use Rattle.npy_header.specs.Header.{headerLength, header, maxSize, sizeIn}
+use Rattle.npy_header.specs.Rules.{brokenAt, headerRule}
 
 module _ (file : List ℕ) where
   -- the file has so many bytes, and a header, of an N up to 999,999,999, starts with them

@@ -17,8 +17,8 @@ use Rattle.text.specs.Numeral.{worth, digitAt}
 use Rattle.text.proofs.Figures.{length-decimal, decimal-one, decimal-more}
 use Rattle.text.proofs.Line.{digit-within}
 use Rattle.text.proofs.Order.{lt-or-le}
-use Rattle.npy.specs.Header.{front, described, padding, header, maxSize, numberFrom, sizeIn}
-use Rattle.npy.proofs.Digits.{glyph-worth, Spell, Digits, digits-of}
+use Rattle.npy_header.specs.Header.{front, described, padding, header, maxSize, numberFrom, sizeIn}
+use Rattle.npy_header.proofs.Digits.{glyph-worth, Spell, Digits, digits-of}
 
 -- where n ends that stands behind the front
 abbrev pub endOf : ℕ → ℕ

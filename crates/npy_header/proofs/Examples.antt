@@ -5,7 +5,7 @@ use mathlib.Core.List.{[], _∷_, _++_}
 use lib.ListN.{length, take, set}
 use Rattle.text.specs.Text.{ascii, newline, places}
 use Rattle.text.specs.Numeral.{worth}
-use Rattle.npy.specs.Header.{front, header, sizeIn, breakIn}
+use Rattle.npy_header.specs.Header.{front, header, sizeIn, breakIn}
 
 -- what NumPy writes for ten rows
 ten : header 10 ≡ 0x93 ∷ (ascii "NUMPY" ++ (1 ∷ 0 ∷ 118 ∷ 0 ∷ ascii "{'descr': '<f8', 'fortran_order': False, 'shape': (10, 10), }                                                        \n"))

@@ -2,8 +2,8 @@
 -- Assumes nothing.
 use borrow.Author.Needs.{needs}
 use Rattle.text.proofs.Pieces.{put-then}
-use Rattle.npy.proofs.header.put_described.Statement.{statement}
-use Rattle.npy.proofs.header.put_described.Tie as tie
+use Rattle.npy_header.proofs.header.put_described.Statement.{statement}
+use Rattle.npy_header.proofs.header.put_described.Tie as tie
 
 returns : tie.Need-returns
 returns c =

@@ -4,9 +4,9 @@ use Prim.Native.Nat.{_-_}
 use native.Mathlib.Omega.{arith}
 use borrow.Author.Needs.{needs}
 use lib.ListN.{length-set}
-use Rattle.npy.proofs.Headers.{Padded, padded-none, padded-long, padded-more, padded-done}
-use Rattle.npy.proofs.header.pad.Statement.{statement}
-use Rattle.npy.proofs.header.pad.Tie as tie
+use Rattle.npy_header.proofs.Headers.{Padded, padded-none, padded-long, padded-more, padded-done}
+use Rattle.npy_header.proofs.header.pad.Statement.{statement}
+use Rattle.npy_header.proofs.header.pad.Tie as tie
 
 abbrev Inv-loop : tie.InvT-loop
 Inv-loop at out₀ last next₀ out next = Padded at out₀ out next

@@ -1,0 +1,3 @@
+pub mod Header
+pub mod Rules
+pub mod Breaks
