@@ -4,7 +4,7 @@ use mathlib.Core.List.{List, [], _∷_}
 use Prim.Native.Nat.{ℕ, zero, suc, _+_, _-_, _*_}
 use lib.Dec.{eqb, ltb}
 use lib.ListN.{length}
-use Rattle.answers.specs.Table.{Answer, answer, short, wholes, passes, next, roomRule}
+use Rattle.answers.specs.Table.{Answer, answer, short, wholes, passes, next, each, roomRule}
 use Rattle.answers.specs.Listed.{InTable}
 use Rattle.answers.proofs.InTable.{in-done, in-1, in-8, in-10, in-pick, in-next, table}
 use Rattle.numbers.specs.Words.{wordOf}
@@ -12,6 +12,7 @@ use Rattle.imapb.specs.declared.decode.DecodedImapb.{DecodedImapb}
 use Rattle.imapb.specs.declared.decode.DecodedImapb.the-variants.{Value, Special, ReservedSpecial, OutOfRange}
 use Rattle.imapb.specs.Tables.{rangeRule, lengthRule}
 use Rattle.ranges.specs.Range.{readingIn}
+use Rattle.layout.specs.Triangle.{slotsOf}
 use Rattle.layout.specs.declared.control.ParseControl.{ParseControl}
 use Rattle.layout.specs.declared.header.Header.{Header}
 use Rattle.layout.specs.declared.header.Header.the-variants.{Open, Unreadable, Short}
@@ -38,9 +39,13 @@ use Rattle.deviations.specs.Range.{lentRule, valueRule, formatOver, rowPart}
 use Rattle.codes.specs.Store.{storeRules}
 use Rattle.reader.specs.Rules.{done, readAnswerIn}
 use Rattle.rules.specs.Named.{ruleOf}
-use Rattle.rules.specs.Rules.{inTurn, codesRule, overRule, ruleH, ruleI, ruleJ, ruleK, elementRules, packRules, roomRules}
+use Rattle.rules.specs.Rules.{inTurn, codesRule, overRule, ruleH, ruleI, ruleJ, ruleK, elementRules, packRules, roomsRule, roomRules}
 use Rattle.rules.proofs.Named.{element-answers}
 use Rattle.elements.specs.declared.head.Head.{Head}
+use Rattle.npy_header.specs.Header.{sizeIn}
+use Rattle.npy_header.specs.Rules.{headerRule}
+use Rattle.npy.specs.Rules as npy
+use Rattle.npy.specs.Rules.{pairRule, rowRules, pairRules, fileRules, importRules}
 use Rattle.plan.specs.Places.{packPlan}
 use Rattle.writer.specs.Pack.{packBytes}
 use Rattle.trip.specs.Answered.{Answered}
@@ -51,11 +56,14 @@ element-in : (bytes : List ℕ) (at size : ℕ) (format : Answer) → InTable fo
 element-in bytes at size format f =
     in-pick (ltb (length bytes - at) size) (short size (length bytes - at)) format (in-1 size (length bytes - at)) f
 
+-- rules in turn
+each-in : (rule : ℕ → Answer) → ((k : ℕ) → InTable (rule k)) → (n : ℕ) → InTable (each n rule)
+each-in rule f zero = in-done []
+each-in rule f (suc n) = in-next (each n rule) (rule n) (each-in rule f n) (f n)
+
 turns-in : (bytes : List ℕ) (at size : ℕ) (format : ℕ → Answer) → ((i : ℕ) → InTable (format i)) → (n : ℕ) → InTable (inTurn bytes at size format n)
-turns-in bytes at size format f zero = in-done []
-turns-in bytes at size format f (suc n) =
-    in-next (inTurn bytes at size format n) (elementRule bytes (at + n * size) size (format n)) (turns-in bytes at size format f n)
-    (element-in bytes (at + n * size) size (format n) (f n))
+turns-in bytes at size format f =
+    each-in (λ k. elementRule bytes (at + k * size) size (format k)) (λ k. element-in bytes (at + k * size) size (format k) (f k))
 
 range-in : (v : ℕ) → InTable (rangeRule v)
 range-in v = search table depth 10
@@ -140,8 +148,11 @@ rules-in bytes J =
     turns-in bytes (codesAt h) (h .control .clen) (λ _. codeFormat (h .control)) (λ _. formats-in (h .control) .1) (presentCount bytes h)
 rules-in bytes K = over-in (endAt bytes (headOf bytes)) (length bytes)
 
+rooms-for-in : (rows slots d c s : ℕ) → InTable (roomsRule rows slots d c s)
+rooms-for-in rows slots d c s = search table depth 20
+
 rooms-in : (h : Head) (d c s : ℕ) → InTable (roomRules h d c s)
-rooms-in h d c s = search table depth 20
+rooms-in h = rooms-for-in (deviationCount h) (slotsOf (h .n))
 
 -- a) to g), and a) to k)
 fits-in : (bytes : List ℕ) → InTable (fitRules bytes)
@@ -192,6 +203,21 @@ plans-in n cs L = in-next (countRules n (length cs) L) (rangeRules cs) (counts-i
 room-in : (needed room : ℕ) → InTable (roomRule needed room)
 room-in needed room = search table depth 10
 
+-- a .npy file
+pairs-in : (file : List ℕ) (n : ℕ) → InTable (pairRules file n)
+unfolding pairRules
+pairs-in file n =
+    each-in (rowRules file n) (λ i. each-in (λ k. pairRule file n i (i + 1 + k)) (λ k. search table depth 10) (n - 1 - i)) n
+
+header-rule-in : (file : List ℕ) → InTable (headerRule file)
+header-rule-in file = search table depth 10
+
+file-in : (file : List ℕ) → InTable (fileRules file)
+file-in file =
+    let n = sizeIn file in
+    in-next (headerRule file) (next (npy.sizeRules file n) (pairRules file n)) (header-rule-in file)
+    (in-next (npy.sizeRules file n) (pairRules file n) (search table depth 10) (pairs-in file n))
+
 done-in : (n : ℕ) → InTable (answer 0 (wholes (n ∷ [])))
 done-in n = search table depth 10
 
@@ -207,9 +233,18 @@ answered =
       decides = packs-in;
       rooms = rooms-in;
       stores = stores-in;
+      rooms-for = rooms-for-in;
       takes = λ set room.
           let done = counts (length (packsOf set 0 (itemsOf set))) (length (tagsOf (itemsOf set))) in
           in-next (setRules set room 0 (itemsOf set)) done (sets-in set room 0 (itemsOf set)) (search table depth 10);
+      exports = λ n ds cs room. search table depth 20;
+      imports = λ file d c s.
+          let n = sizeIn file in
+          let rooms = roomsRule n (slotsOf n) d c s in
+          in-next (importRules file d c s) (answer 0 (wholes (n ∷ n ∷ slotsOf n ∷ [])))
+          (in-next (fileRules file) rooms (file-in file) (rooms-for-in n (slotsOf n) d c s)) (search table depth 10);
+      writes-header = λ n room. search table depth 10;
+      checks-header = header-rule-in;
       writes = λ ds cs L room.
           let long = length (packBytes ds cs L) in
           let done = answer 0 (wholes (long ∷ [])) in

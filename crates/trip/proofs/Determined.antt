@@ -31,8 +31,10 @@ use Rattle.text.proofs.marks.mark.Reads as mark
 use Rattle.text.proofs.marks.mark_words.Reads as mark-words
 use Rattle.text.proofs.marks.changed.Reads as changed
 use Rattle.text.proofs.marks.words_changed.Reads as words-changed
-use Rattle.numbers.proofs.OneAnswer.{read-be-one, ber-oid-len-one, read-ber-oid-one, read-ber-oid-strict-one, read-ber-one, read-ber-strict-one, write-be-one, write-ber-oid-one, nearest-binary64-one, binary64-to-binary32-one, binary32-to-binary64-one, whole-part-one}
+use Rattle.numbers.proofs.OneAnswer.{read-be-one, read-le-one, write-le-one, ber-oid-len-one, read-ber-oid-one, read-ber-oid-strict-one, read-ber-one, read-ber-strict-one, write-be-one, write-ber-oid-one, nearest-binary64-one, binary64-to-binary32-one, binary32-to-binary64-one, whole-part-one}
 use Rattle.numbers.proofs.words.read_be.Reads as read-be
+use Rattle.numbers.proofs.words.read_le.Reads as read-le
+use Rattle.numbers.proofs.words.write_le.Reads as write-le
 use Rattle.numbers.proofs.ber_oid.ber_oid_len.Reads as ber-oid-len
 use Rattle.numbers.proofs.ber_oid.read_ber_oid.Reads as read-ber-oid
 use Rattle.numbers.proofs.ber_oid.read_ber_oid_strict.Reads as read-ber-oid-strict
@@ -98,10 +100,11 @@ use Rattle.deviations.proofs.OneAnswer.{check-deviation-range-one, deviation-fo
 use Rattle.deviations.proofs.form.check_deviation_range.Reads as check-deviation-range
 use Rattle.deviations.proofs.form.deviation_form.Reads as deviation-form
 use Rattle.deviations.proofs.number.deviation_in.Reads as deviation-in
-use Rattle.rules.proofs.OneAnswer.{decide-one, judge-one, check-rooms-one}
+use Rattle.rules.proofs.OneAnswer.{decide-one, judge-one, check-rooms-one, check-rooms-for-one}
 use Rattle.rules.proofs.decide.decide.Reads as decide
 use Rattle.rules.proofs.judge.judge.Reads as judge
 use Rattle.rules.proofs.rooms.check_rooms.Reads as check-rooms
+use Rattle.rules.proofs.rooms.check_rooms_for.Reads as check-rooms-for
 use Rattle.explain.proofs.OneAnswer.{explain-one, slot-code-one, behind-one}
 use Rattle.explain.proofs.explain.explain.Reads as explain
 use Rattle.explain.proofs.slot.slot_code.Reads as slot-code
@@ -120,6 +123,13 @@ use Rattle.slots.proofs.write.write_slots.Reads as write-slots
 use Rattle.writer.proofs.OneAnswer.{encode-sdcc-flp-mode2-one, encode-sdcc-flp-one}
 use Rattle.writer.proofs.write.encode_sdcc_flp_mode2.Reads as encode-sdcc-flp-mode2
 use Rattle.writer.proofs.write.encode_sdcc_flp.Reads as encode-sdcc-flp
+use Rattle.npy_header.proofs.OneAnswer.{write-header-one, size-in-one, check-header-one}
+use Rattle.npy_header.proofs.header.write_header.Reads as write-header
+use Rattle.npy_header.proofs.check.size_in.Reads as size-in
+use Rattle.npy_header.proofs.check.check_header.Reads as check-header
+use Rattle.npy.proofs.OneAnswer.{export-npy-one, import-npy-one}
+use Rattle.npy.proofs.export.export_npy.Reads as export-npy
+use Rattle.npy.proofs.import.import_npy.Reads as import-npy
 use Rattle.matrix.proofs.OneAnswer.{correlation-one, usable-one}
 use Rattle.matrix.proofs.lookup.correlation.Reads as correlation
 use Rattle.matrix.proofs.usable.usable.Reads as usable
@@ -216,12 +226,14 @@ pub record Determined : Type 0 where
   pub words-changed-determined : OneResult words-changed.Learnt
   -- numbers
   pub read-be-determined : OneResult read-be.Learnt
+  pub read-le-determined : OneResult read-le.Learnt
   pub ber-oid-len-determined : OneResult ber-oid-len.Learnt
   pub read-ber-oid-determined : OneResult read-ber-oid.Learnt
   pub read-ber-oid-strict-determined : OneResult read-ber-oid-strict.Learnt
   pub read-ber-determined : OneResult read-ber.Learnt
   pub read-ber-strict-determined : OneResult read-ber-strict.Learnt
   pub write-be-determined : OneAnswer write-be.Learnt (λ κs s. now (s .1 .0))
+  pub write-le-determined : OneAnswer write-le.Learnt (λ κs s. now (s .1 .0))
   pub write-ber-oid-determined : OneAnswer write-ber-oid.Learnt (λ κs s. now (s .1 .0))
   pub nearest-binary64-determined : OneResult nearest-binary64.Learnt
   pub binary64-to-binary32-determined : OneResult binary64-to-binary32.Learnt
@@ -285,6 +297,7 @@ pub record Determined : Type 0 where
   pub decide-determined : OneResult decide.Learnt
   pub judge-determined : OneResult judge.Learnt
   pub check-rooms-determined : OneResult check-rooms.Learnt
+  pub check-rooms-for-determined : OneResult check-rooms-for.Learnt
   -- why a pack is refused, and its places
   pub explain-determined : OneResult explain.Learnt
   pub slot-code-determined : OneResult slot-code.Learnt
@@ -300,6 +313,12 @@ pub record Determined : Type 0 where
   pub write-slots-determined : OneAnswer write-slots.Learnt (λ κs s. now (s .1 .1 .1 .0))
   pub encode-sdcc-flp-mode2-determined : OneAnswer encode-sdcc-flp-mode2.Learnt (λ κs s. now (s .1 .1 .1 .0))
   pub encode-sdcc-flp-determined : OneAnswer encode-sdcc-flp.Learnt (λ κs s. now (s .1 .1 .0))
+  -- .npy files
+  pub write-header-determined : OneAnswer write-header.Learnt (λ κs s. now (s .1 .0))
+  pub size-in-determined : OneResult size-in.Learnt
+  pub check-header-determined : OneResult check-header.Learnt
+  pub export-npy-determined : OneAnswer export-npy.Learnt (λ κs s. now (s .1 .1 .1 .0))
+  pub import-npy-determined : OneAnswer {L = List ℕ × List ℕ × List ℕ} import-npy.Learnt (λ κs s. (now (s .1 .0), now (s .1 .1 .0), now (s .1 .1 .1 .0)))
   -- lookup and usable
   pub correlation-determined : OneResult correlation.Learnt
   pub usable-determined : OneResult usable.Learnt
@@ -389,12 +408,14 @@ determined =
       changed-determined = changed-one;
       words-changed-determined = words-changed-one;
       read-be-determined = read-be-one;
+      read-le-determined = read-le-one;
       ber-oid-len-determined = ber-oid-len-one;
       read-ber-oid-determined = read-ber-oid-one;
       read-ber-oid-strict-determined = read-ber-oid-strict-one;
       read-ber-determined = read-ber-one;
       read-ber-strict-determined = read-ber-strict-one;
       write-be-determined = write-be-one;
+      write-le-determined = write-le-one;
       write-ber-oid-determined = write-ber-oid-one;
       nearest-binary64-determined = nearest-binary64-one;
       binary64-to-binary32-determined = binary64-to-binary32-one;
@@ -451,6 +472,7 @@ determined =
       decide-determined = decide-one;
       judge-determined = judge-one;
       check-rooms-determined = check-rooms-one;
+      check-rooms-for-determined = check-rooms-for-one;
       explain-determined = explain-one;
       slot-code-determined = slot-code-one;
       behind-determined = behind-one;
@@ -463,6 +485,11 @@ determined =
       write-slots-determined = write-slots-one;
       encode-sdcc-flp-mode2-determined = encode-sdcc-flp-mode2-one;
       encode-sdcc-flp-determined = encode-sdcc-flp-one;
+      write-header-determined = write-header-one;
+      size-in-determined = size-in-one;
+      check-header-determined = check-header-one;
+      export-npy-determined = export-npy-one;
+      import-npy-determined = import-npy-one;
       correlation-determined = correlation-one;
       usable-determined = usable-one;
       put-values-determined = put-values-one;

@@ -15,8 +15,10 @@ use Rattle.elements.specs.declared.head.Head.{Head}
 use Rattle.deviations.specs.declared.form.DeviationRange.{DeviationRange}
 use Rattle.deviations.specs.Range.{lentRule}
 use Rattle.rules.specs.Named.{ruleOf}
-use Rattle.rules.specs.Rules.{packRules, roomRules}
+use Rattle.rules.specs.Rules.{packRules, roomsRule, roomRules}
 use Rattle.codes.specs.Store.{storeRules}
+use Rattle.npy_header.specs.Rules.{headerWritten, headerRule}
+use Rattle.npy.specs.Rules.{exportAnswer, importAnswer}
 use Rattle.plan.specs.Rules.{planRules}
 use Rattle.slots.specs.Rules.{slotsRules}
 use Rattle.layout.specs.declared.pack.SdccFlp.{SdccFlp}
@@ -37,8 +39,14 @@ pub record Answered : Type 0 where
   pub decides : (range : DeviationRange) (bytes : List ℕ) → InTable (packRules range bytes)
   pub rooms : (h : Head) (d c s : ℕ) → InTable (roomRules h d c s)
   pub stores : (range : DeviationRange) (bytes : List ℕ) (d c s : ℕ) → InTable (storeRules range bytes d c s)
+  pub rooms-for : (rows slots d c s : ℕ) → InTable (roomsRule rows slots d c s)
   -- a set, for every byte string and every tag list
   pub takes : (set : List ℕ) (room : ℕ) → InTable (setAnswer set room)
+  -- a .npy file, made of every N and all numbers, and read from every byte string; its header within it
+  pub exports : (n ds cs room : ℕ) → InTable (exportAnswer n ds cs room)
+  pub imports : (file : List ℕ) (d c s : ℕ) → InTable (importAnswer file d c s)
+  pub writes-header : (n room : ℕ) → InTable (headerWritten n room)
+  pub checks-header : (file : List ℕ) → InTable (headerRule file)
   -- the writer, for all numbers and rooms; the plan and the slots within it
   pub writes : (ds cs : List ℕ) (L room : ℕ) → InTable (writeAnswer ds cs L room)
   pub plans : (n : ℕ) (cs : List ℕ) (L : ℕ) → InTable (planRules n cs L)

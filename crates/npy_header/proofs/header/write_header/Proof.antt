@@ -25,9 +25,10 @@ returns-3 : tie.Need-returns-3
 returns-3 c =
     let t = c .before .before .before .before in
     let a = t .before .before .before .args in
-    let few = t .before .if1 .left in
-    (sym (header-passes (a .n) (length (a .out .now)) few (t .if2 .left)),
-    c .before .before .put-header .ensures ∙ sets-over (header (a .n)) (a .out .now) (rw (length-header (a .n) few) (t .if2 .left)))
+    let few = t .before .if1 .left in (
+      sym (header-passes (a .n) (length (a .out .now)) few (t .if2 .left)),
+      c .before .before .put-header .ensures ∙ sets-over (header (a .n)) (a .out .now) (rw (length-header (a .n) few) (t .if2 .left)),
+    )
 
 pub write-header-spec : {M : Type 1} → statement M
 write-header-spec = tie.close (tie.spec returns returns-2 put-header-requires (λ c. search needs) returns-3)
