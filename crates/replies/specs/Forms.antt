@@ -37,6 +37,8 @@ forms =
     ∷ ascii "ber H"
     ∷ ascii "strict-ber H"
     ∷ ascii "set G H"
+    ∷ ascii "to-npy L N S C"
+    ∷ ascii "from-npy D E F H"
     ∷ ascii "bad request"
     ∷ ascii "refused A"
     ∷ ascii "refused A B"

@@ -3,7 +3,7 @@ use Prim.Native.Nat.{ℕ, _+_}
 
 -- the requests are the first so many, and this is the reply to what is none of them
 abbrev pub badRequest : ℕ
-badRequest = 28
+badRequest = 30
 
 -- a refusal's number alone, then with one, two and three values
 abbrev pub refusedAt : ℕ

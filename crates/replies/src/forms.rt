@@ -4,7 +4,7 @@ ghost use Rattle.replies.specs.Forms.{letterOf, isField};
 
 // Words stand for themselves, a capital for a field of the request or a value of the reply, and a dot for the end.
 // A reply ends at a comma, which a request has none of: `special` is asked for as it is replied.
-const FORMS: [u8; 1368] = *b"\
+const FORMS: [u8; 1416] = *b"\
     widen W.................\
     narrow X................\
     oid H...................\
@@ -33,6 +33,8 @@ const FORMS: [u8; 1368] = *b"\
     ber H...................\
     strict-ber H............\
     set G H.................\
+    to-npy L N S C..........\
+    from-npy D E F H........\
     bad request.............\
     refused A...............\
     refused A B.............\
@@ -65,10 +67,10 @@ const FORMS: [u8; 1368] = *b"\
 
 pub const WIDTH: usize = 24;
 
-const COUNT: usize = 57;
+const COUNT: usize = 59;
 
-// The requests come first: 0 to 6, 21 and 24 to 26 are replied to by a form, 7 is print, 8 and 22 read, 9 to 20 write,
-// from 12 on the special kinds, 23 is why, and 27 is set.
+// The requests come first: 0 to 6, 21 and 24 to 26 are replied to by a form, 7 is print, 8, 22 and 29 read, 9 to 20 and
+// 28 write, from 12 on the special kinds, 23 is why, and 27 is set.
 pub const CELL: usize = 5;
 
 pub const WRITE: usize = 11;
@@ -87,8 +89,12 @@ pub const STRICT_BER: usize = 26;
 
 pub const SET: usize = 27;
 
+pub const TO_NPY: usize = 28;
+
+pub const FROM_NPY: usize = 29;
+
 // What is none of them is replied to by this form, and the other replies follow.
-pub const BAD_REQUEST: usize = 28;
+pub const BAD_REQUEST: usize = 30;
 
 // A refusal's number alone; the three forms behind it have a value more each, and the last has binary64s.
 pub const REFUSED: usize = BAD_REQUEST + 1;

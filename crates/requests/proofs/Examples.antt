@@ -2,7 +2,7 @@
 -- Assumes nothing.
 use mathlib.Core.Path.{_≡_, refl}
 use mathlib.Core.List.{List, [], _∷_}
-use Prim.Native.Nat.{ℕ, _^_}
+use Prim.Native.Nat.{ℕ, _-_, _^_}
 use lib.ListN.{length, length-take, length-drop}
 use Rattle.text.specs.declared.numeral.Numeral.the-variants.{Read, Malformed}
 use Rattle.text.specs.Numeral.{worth}
@@ -45,14 +45,37 @@ pub set-read : requestOf (ascii "set 300000 0301E8") []
 unfolding worth forms most numberAt partOf listOf wordsOf fieldAt lineAfter wordsAfter with askedBy
 set-read = refl
 
--- a word too many, rooms that are larger than there is, no byte string where one is asked for, and a list too few
+-- the room for a file, an N of any size, and two lists; the rooms for what a file holds, and its bytes
+pub to-npy-read : requestOf (ascii "to-npy 4000000 18446744073709551615 0 0") []
+    ≡ record {
+      form = 28;
+      size = 2 ^ 64 - 1;
+      value = 0;
+      second = 0;
+      given = 0;
+      room = 4000000;
+      rows = 0;
+      slots = 0;
+      states = 0;
+    }
+unfolding worth forms most numberAt partOf listOf wordsOf fieldAt lineAfter wordsAfter with askedBy
+to-npy-read = refl
+
+pub from-npy-read : requestOf (ascii "from-npy 1 2 3 934E") []
+    ≡ record { form = 29; size = 0; value = 0; second = 0; given = 2; room = 0; rows = 1; slots = 2; states = 3 }
+unfolding worth forms most numberAt partOf listOf wordsOf fieldAt lineAfter wordsAfter with askedBy
+from-npy-read = refl
+
+-- a word too many, rooms that are larger than there is, no byte string where one is asked for, a list too few, and a
+-- number of more than 64 bits
 abbrev bad : List ℕ → Type 0
 bad line = requestOf line [] ≡ unfilled badRequest
 
 pub refused-requests : bad (ascii "peek 01 ") × bad (ascii "map 2 600001 3FF0000000000000") × bad (ascii "set 300001 -")
-    × bad (ascii "peek ") × bad (ascii "usable 2 0 0")
+    × bad (ascii "to-npy 4000001 0 0 0") × bad (ascii "peek ") × bad (ascii "usable 2 0 0") × bad (ascii "to-npy 128 0 0")
+    × bad (ascii "to-npy 128 18446744073709551616 0 0")
 unfolding worth forms most numberAt partOf listOf wordsOf fieldAt lineAfter wordsAfter with askedBy
-refused-requests = (refl, refl, refl, refl, refl)
+refused-requests = (refl, refl, refl, refl, refl, refl, refl, refl)
 
 -- three lists, the last of states in decimal
 pub usable-read : requestOf (ascii "usable 2 0 0 0") []

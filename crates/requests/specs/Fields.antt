@@ -19,6 +19,10 @@ use Rattle.requests.specs.declared.fields.Part.{Part}
 abbrev pub bytesLent : ℕ
 bytesLent = 600000
 
+-- far more than any file has
+abbrev pub fileLent : ℕ
+fileLent = 4000000
+
 -- an item of a set has two bytes at least
 abbrev pub tagsLent : ℕ
 tagsLent = bytesLent / 2
@@ -33,12 +37,13 @@ abbrev pub wordsLent : ℕ
 wordsLent = rowsLent + slotsLent + slotsLent
 
 -- ---- a number
--- the most that it may be: `D`, `E`, `F`, `G` and `R` are rooms
+-- the most that it may be: `D`, `E`, `F`, `G`, `L` and `R` are rooms
 unfoldable pub most : ℕ → ℕ
 most letter =
     pick (eqb letter 0x44) rowsLent
     (pick (eqb letter 0x45 || eqb letter 0x46) slotsLent
-    (pick (eqb letter 0x47) tagsLent (pick (eqb letter 0x52) bytesLent (2 ^ 64 - 1))))
+    (pick (eqb letter 0x47) tagsLent
+    (pick (eqb letter 0x4c) fileLent (pick (eqb letter 0x52) bytesLent (2 ^ 64 - 1)))))
 
 -- `W` is a binary32, `X` and `Y` binary64, any capital up to `V` in decimal; a dot is the line's end, a comma nothing
 unfoldable pub numberAt : ℕ → List ℕ → ℕ → Numeral

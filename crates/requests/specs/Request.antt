@@ -15,7 +15,7 @@ abbrev pub unfilled : ℕ → Request
 unfilled form =
     record { form = form; size = 0; value = 0; second = 0; given = 0; room = 0; rows = 0; slots = 0; states = 0 }
 
--- `N` says the size, `I`, `P`, `W` and `X` the value, `Y` the second, `H` and `J` what is given, `G` and `R` the
+-- `N` says the size, `I`, `P`, `W` and `X` the value, `Y` the second, `H` and `J` what is given, `G`, `L` and `R` the
 -- room, `D` and `S` the rows, `C` and `E` the slots, `F` and `T` the states; any other letter says nothing
 unfoldable pub with : ℕ → ℕ → Request → Request
 with letter value r =
@@ -25,7 +25,7 @@ with letter value r =
       value = pick ((eqb letter 0x49 || eqb letter 0x50) || (eqb letter 0x57 || eqb letter 0x58)) value (r .value);
       second = pick (eqb letter 0x59) value (r .second);
       given = pick (eqb letter 0x48 || eqb letter 0x4a) value (r .given);
-      room = pick (eqb letter 0x47 || eqb letter 0x52) value (r .room);
+      room = pick (eqb letter 0x47 || (eqb letter 0x4c || eqb letter 0x52)) value (r .room);
       rows = pick (eqb letter 0x44 || eqb letter 0x53) value (r .rows);
       slots = pick (eqb letter 0x43 || eqb letter 0x45) value (r .slots);
       states = pick (eqb letter 0x46 || eqb letter 0x54) value (r .states);

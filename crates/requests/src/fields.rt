@@ -1,5 +1,6 @@
 //! The fields of a request, each read from a place of its line on.
 use crate::limits::BYTES;
+use crate::limits::FILE;
 use crate::limits::ROWS;
 use crate::limits::SLOTS;
 use crate::limits::TAGS;
@@ -25,6 +26,7 @@ fn most(letter: u8) -> u64
         b'D' => ROWS as u64,
         b'E' | b'F' => SLOTS as u64,
         b'G' => TAGS as u64,
+        b'L' => FILE as u64,
         b'R' => BYTES as u64,
         _ => u64::MAX,
     }

@@ -1,8 +1,11 @@
 //! How much a request may give, and how much it may be lent.
 use layout::pack::SdccFlp;
 
-// No request is lent more.
+// No request gives more, and none but for a file is lent more.
 pub const BYTES: usize = 600_000;
+
+// Far more than any file has: N and the counts are refused before a room, however large that is.
+pub const FILE: usize = 4_000_000;
 
 // An item of a set has two bytes at least, so that this is room for the tags of any.
 pub const TAGS: usize = BYTES / 2;

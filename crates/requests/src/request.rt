@@ -19,7 +19,7 @@ pub struct Request {
     pub second: u64,
     // H: how many bytes are given; J: a column
     pub given: u64,
-    // R: the room for bytes; G: the room for tags
+    // R: the room for bytes; L: the room for a file; G: the room for tags
     pub room: u64,
     // S and D: the deviations, or the room for them
     pub rows: u64,
@@ -54,7 +54,7 @@ impl Request {
             b'I' | b'P' | b'W' | b'X' => self.value = value,
             b'Y' => self.second = value,
             b'H' | b'J' => self.given = value,
-            b'G' | b'R' => self.room = value,
+            b'G' | b'L' | b'R' => self.room = value,
             b'D' | b'S' => self.rows = value,
             b'C' | b'E' => self.slots = value,
             b'F' | b'T' => self.states = value,

@@ -1,7 +1,7 @@
 -- `request::Request::with` meets its contract, by the letter.
 -- Assumes nothing.
 use mathlib.Core.Path.{_≡_}
-use mathlib.Core.Logic.{⊎-elim}
+use mathlib.Core.Logic.{inl, inr, ⊎-elim}
 use native.Mathlib.Omega.{arith}
 use borrow.Author.Tests.{ne-eqb}
 use Rattle.replies.proofs.Letters.{neither}
@@ -24,7 +24,7 @@ returns-3 c = ⊎-elim (λ e. rw e) (λ e. rw e) (c .match .keys4)
 
 returns-4 : tie.Need-returns-4
 unfolding with
-returns-4 c = ⊎-elim (λ e. rw e) (λ e. rw e) (c .match .keys5)
+returns-4 c = ⊎-elim (λ e. rw e) (⊎-elim (λ e. rw e) (λ e. rw e)) (c .match .keys5)
 
 returns-5 : tie.Need-returns-5
 unfolding with
@@ -50,7 +50,8 @@ other c w x =
       neither _ _ l (r .0 .0 .0 .0 .0 .0 .1),
       ne-eqb l 0x59 (r .0 .0 .0 .0 .0 .1),
       neither _ _ l (r .0 .0 .0 .0 .1),
-      neither _ _ l (r .0 .0 .0 .1),
+      ne-eqb l 0x47 (λ e. r .0 .0 .0 .1 (inl e)),
+      neither _ _ l (λ o. r .0 .0 .0 .1 (inr o)),
       neither _ _ l (r .0 .0 .1),
       neither _ _ l (r .0 .1),
       neither _ _ l (r .1),
