@@ -14,11 +14,13 @@ use numbers::ber_oid::read_ber_oid;
 use numbers::ber_oid::read_ber_oid_strict;
 use replies::forms::BAD_REQUEST;
 use replies::forms::BER;
+use replies::forms::FROM_NPY;
 use replies::forms::MAPPED_IN;
 use replies::forms::READ_IN;
 use replies::forms::SET;
 use replies::forms::STRICT_BER;
 use replies::forms::STRICT_OID;
+use replies::forms::TO_NPY;
 use replies::forms::WHY;
 use replies::mapped::of_mapped;
 use replies::numeric;
@@ -61,16 +63,16 @@ fn answer_given(
     let form = request.form;
     match form {
         7 => put_print(given, at, out),
-        8 | READ_IN => put_read(request, given, lists, at, out),
+        8 | READ_IN | FROM_NPY => put_read(request, given, lists, at, out),
         WHY => put_account(false, given, at, out),
         SET => put_set(request, given, at, out),
         _ => put_reply(short(request, given, lists), at, out),
     }
 }
 
-// Whether it is one of map, special and write, which write into what is lent.
+// Whether it is one of map, special, write and to-npy, which write into what is lent.
 fn writes(form: usize) -> bool {
-    8 < form && form < MAPPED_IN
+    form == TO_NPY || 8 < form && form < MAPPED_IN
 }
 
 // What a request gives stands in the front of the bytes, and what it writes goes there.

@@ -1,6 +1,7 @@
 //! Answers requests: a line of standard input each, and a line of standard output for each.
 mod answer;
 mod cells;
+mod files;
 mod input;
 mod lists;
 mod prints;
@@ -14,6 +15,7 @@ use input::HELD;
 use input::flush_above;
 use input::refill;
 use requests::limits::BYTES;
+use requests::limits::FILE;
 use requests::limits::WORDS;
 use requests::request::read_request;
 use text::part::within;
@@ -24,9 +26,9 @@ const LINE: usize = 2 * BYTES + 128;
 
 const OUT: usize = 2 * HELD + LINE;
 
-// How much of a line is a request: nothing of one that fills its room. An empty line is a bad request too.
-fn fitting(read: usize, room: usize) -> usize {
-    if read < room { read } else { 0 }
+// How much of a line is a request: nothing of one that is longer. An empty line is a bad request too.
+fn fitting(read: usize) -> usize {
+    if read < LINE { read } else { 0 }
 }
 
 // The request, and its answer. What is held is written out when there is much of it.
@@ -37,7 +39,7 @@ fn answer_line(
     at: usize,
     out: &mut [u8],
 ) -> usize {
-    let count = within(fitting(read, line.len()), line);
+    let count = within(fitting(read), line);
     let request = read_request(&mut line[..count], words);
     let answered = answer(request, line, words, at, out);
     flush_above(HELD, put_byte(b'\n', answered, out), out)
@@ -64,8 +66,9 @@ fn feed(block: &[u8], begun: usize, line: &mut [u8], words: &mut [u64], out: &mu
 }
 
 // The arrays come from calls: the check would count the elements of one that `main` makes itself.
-fn room_for_line() -> [u8; LINE] {
-    [0; LINE]
+// What a request writes goes where its line stood, and of that a file is lent the most.
+fn room_for_line() -> [u8; FILE] {
+    [0; FILE]
 }
 
 fn room_for_words() -> [u64; WORDS] {

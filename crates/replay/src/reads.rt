@@ -1,7 +1,9 @@
-//! The requests that read a pack: read, read-in.
+//! The requests that read a pack or a file into what is lent: read, read-in, from-npy.
+use crate::files::from_npy;
 use crate::ranged::read_in;
 use reader::read::ReadAnswer;
 use reader::read::decode_sdcc_flp;
+use replies::forms::FROM_NPY;
 use replies::forms::READ_IN;
 use requests::limits::ROWS;
 use requests::limits::SLOTS;
@@ -23,25 +25,27 @@ fn room_for_states() -> [u8; SLOTS] {
     [MARK; SLOTS]
 }
 
-// By the reader that is lent a range, or by the one that is lent none.
+// A file, or a pack by the reader that is lent a range or by the one that is lent none.
 fn decode(
     request: Request,
-    pack: &[u8],
+    given: &[u8],
     deviations: &mut [u64],
     correlations: &mut [u64],
     states: &mut [u8],
 ) -> ReadAnswer {
-    if request.form == READ_IN {
-        return read_in(request, pack, deviations, correlations, states);
+    let form = request.form;
+    match form {
+        READ_IN => read_in(request, given, deviations, correlations, states),
+        FROM_NPY => from_npy(given, deviations, correlations, states),
+        _ => decode_sdcc_flp(given, deviations, correlations, states),
     }
-    decode_sdcc_flp(pack, deviations, correlations, states)
 }
 
 // As much is lent as the request says.
 fn read(
     request: Request,
     lent: Lent,
-    pack: &[u8],
+    given: &[u8],
     deviations: &mut [u64],
     correlations: &mut [u64],
     states: &mut [u8],
@@ -52,7 +56,7 @@ fn read(
     let told = within(lent.states as usize, states);
     decode(
         request,
-        pack,
+        given,
         &mut deviations[..rows],
         &mut correlations[..slots],
         &mut states[..told],
@@ -61,7 +65,7 @@ fn read(
 
 pub(crate) fn put_read(
     request: Request,
-    pack: &[u8],
+    given: &[u8],
     correlations: &mut [u64],
     at: usize,
     out: &mut [u8],
@@ -76,7 +80,7 @@ pub(crate) fn put_read(
     let read = read(
         request,
         lent,
-        pack,
+        given,
         &mut deviations,
         correlations,
         &mut states,

@@ -1,10 +1,12 @@
-//! The requests that write into what is lent: map, special, write.
+//! The requests that write into what is lent: map, special, write, to-npy.
+use crate::files::to_npy;
 use crate::lists::correlations;
 use crate::lists::deviations;
 use answers::Written;
 use imapb::encode::encode_imapb;
 use imapb::special::encode_imapb_special;
 use replies::forms::DONE;
+use replies::forms::TO_NPY;
 use replies::forms::WRITE;
 use replies::kind::special_of;
 use requests::request::Request;
@@ -30,6 +32,7 @@ fn write(request: Request, lists: &[u64], lent: &mut [u8]) -> Written {
     match form {
         9 => encode_imapb(request.size as usize, request.value, lent),
         10 | 11 => write_pack(request, lists, lent),
+        TO_NPY => to_npy(request, lists, lent),
         _ => encode_imapb_special(special_of(form, request.value), request.size as usize, lent),
     }
 }
