@@ -1,5 +1,6 @@
 //! The figure: a number that depends on everything that was made, so that no compiler can leave any of it out.
 use answers::Written;
+use reader::read::ReadAnswer;
 
 // What a refusal adds.
 pub(crate) const REFUSED: u64 = u64::MAX;
@@ -9,6 +10,14 @@ pub(crate) fn of_written(written: Written) -> u64 {
     match written {
         Written::Done(length) => length as u64,
         Written::Refused(_) => REFUSED,
+    }
+}
+
+// The word of what a reader answers: how many slots it stored.
+pub(crate) fn of_read(read: ReadAnswer) -> u64 {
+    match read {
+        ReadAnswer::Done(matrix) => matrix.slots as u64,
+        ReadAnswer::Refused(_) => REFUSED,
     }
 }
 

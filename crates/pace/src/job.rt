@@ -2,7 +2,7 @@
 use text::numeral::Numeral;
 use text::numeral::decimal;
 
-// Each does the six in turn. Idle does nothing, so that what the repetitions themselves cost can be taken off.
+// Each does the first six in turn. Idle does nothing, so that what the repetitions themselves cost can be taken off.
 pub(crate) enum Op {
     Read,
     Write,
@@ -10,6 +10,8 @@ pub(crate) enum Op {
     Cell,
     Value,
     Special,
+    ToNpy,
+    FromNpy,
     Each,
     Idle,
 }
@@ -55,6 +57,8 @@ fn op_of(word: [u8; 10]) -> Op {
         b'c' => Op::Cell,
         b'v' => Op::Value,
         b's' => Op::Special,
+        b't' => Op::ToNpy,
+        b'f' => Op::FromNpy,
         b'e' => Op::Each,
         _ => Op::Idle,
     }

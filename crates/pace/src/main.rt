@@ -10,20 +10,21 @@ mod turns;
 use figure::REFUSED;
 use job::Job;
 use job::Kind;
+use job::Op;
 use layout::pack::SdccFlp;
 use layout::triangle::corr_slots;
 use text::part::within;
 use text::part::within_words;
 
-// The largest pack.
+// The largest matrix.
 const ROWS: usize = SdccFlp::MAX_ROWS as usize;
 
 const SLOTS: usize = SdccFlp::MAX_SLOTS as usize;
 
-// A head of 12 bytes at most, 8 bytes to a deviation and to a correlation, and a bit to a slot.
-const BYTES: usize = 12 + 8 * ROWS + 8 * SLOTS + SLOTS / 8;
+// Its file: a header, and 8 bytes to an entry. Its pack, which has 8 to a slot at most, is little more than half.
+const BYTES: usize = 128 + 8 * ROWS * ROWS;
 
-// A pack's length, or 0 where there is none.
+// The length of what was written, or 0 where nothing was.
 fn length_of(written: u64) -> usize {
     if written == REFUSED {
         0
@@ -32,17 +33,27 @@ fn length_of(written: u64) -> usize {
     }
 }
 
-// Makes the matrix and its pack, and answers the pack's length.
-fn make(job: Job, deviations: &mut [u64], correlations: &mut [u64], room: &mut [u8]) -> usize {
+// Makes the matrix's pack, and answers its length.
+fn make_pack(job: Job, deviations: &[u64], correlations: &[u64], room: &mut [u8]) -> usize {
     let kind = job.kind;
-    sample::fill_deviations(deviations);
-    sample::fill_correlations(correlations, kind);
     let written = turns::write(deviations, correlations, job.clen, room);
     let length = within(length_of(written), room);
     if let Kind::Specials = kind {
         codes::over_last(correlations.len(), job.clen, &mut room[..length]);
     }
     length
+}
+
+// Makes the matrix, and its pack, or its file for the operations on files, and answers the length of that.
+fn make(job: Job, deviations: &mut [u64], correlations: &mut [u64], room: &mut [u8]) -> usize {
+    let kind = job.kind;
+    sample::fill_deviations(deviations);
+    sample::fill_correlations(correlations, kind);
+    let op = job.op;
+    match op {
+        Op::ToNpy | Op::FromNpy => length_of(turns::to_npy(deviations, correlations, room)),
+        _ => make_pack(job, deviations, correlations, room),
+    }
 }
 
 // Does the job; the figure is then taken over all that it leaves.

@@ -7,7 +7,8 @@ use crate::job::Job;
 use crate::job::Op;
 use layout::size::Peek;
 use layout::size::peek_matrix_size;
-use reader::read::ReadAnswer;
+use npy::export::export_npy;
+use npy::import::import_npy;
 use reader::read::decode_sdcc_flp;
 use writer::write::encode_sdcc_flp_mode2;
 
@@ -20,7 +21,8 @@ fn vary(words: &mut [u64]) {
     }
 }
 
-// The last byte of a pack, the low one of a code or of a deviation, changes its last bit.
+// The last byte of a pack, the low one of a code or of a deviation, changes its last bit; of a file it is the high one
+// of a deviation.
 fn vary_pack(pack: &mut [u8]) {
     if 0 < pack.len() {
         let last = pack.len() - 1;
@@ -29,10 +31,7 @@ fn vary_pack(pack: &mut [u8]) {
 }
 
 fn read(pack: &[u8], deviations: &mut [u64], correlations: &mut [u64], states: &mut [u8]) -> u64 {
-    match decode_sdcc_flp(pack, deviations, correlations, states) {
-        ReadAnswer::Done(read) => read.slots as u64,
-        ReadAnswer::Refused(_) => REFUSED,
-    }
+    figure::of_read(decode_sdcc_flp(pack, deviations, correlations, states))
 }
 
 pub(crate) fn write(deviations: &[u64], correlations: &[u64], clen: usize, pack: &mut [u8]) -> u64 {
@@ -44,6 +43,20 @@ fn peek(pack: &[u8]) -> u64 {
         Peek::Size(n) => n as u64,
         Peek::Nothing => REFUSED,
     }
+}
+
+pub(crate) fn to_npy(deviations: &[u64], correlations: &[u64], file: &mut [u8]) -> u64 {
+    let rows = deviations.len() as u64;
+    figure::of_written(export_npy(rows, deviations, correlations, file))
+}
+
+fn from_npy(
+    file: &[u8],
+    deviations: &mut [u64],
+    correlations: &mut [u64],
+    states: &mut [u8],
+) -> u64 {
+    figure::of_read(import_npy(file, deviations, correlations, states))
 }
 
 // The pack is read, codes are written over it, it is written again, peeked at, and its cells are looked up.
@@ -64,7 +77,7 @@ fn each(
     figure::add(figure::add(figure::add(coded, length), rows), cells)
 }
 
-// The operation, once, and what it answers.
+// The operation, once, and what it answers. Of the two on files the pack is the file.
 fn once(
     job: Job,
     deviations: &mut [u64],
@@ -80,6 +93,8 @@ fn once(
         Op::Cell => cells::of_matrix(deviations, correlations),
         Op::Value => codes::of_values(correlations, job.clen, pack),
         Op::Special => codes::of_specials(correlations.len(), job.clen, pack),
+        Op::ToNpy => to_npy(deviations, correlations, pack),
+        Op::FromNpy => from_npy(pack, deviations, correlations, states),
         Op::Each => each(job.clen, deviations, correlations, states, pack),
         Op::Idle => 0,
     }
