@@ -13,7 +13,7 @@ use Rattle.numbers.specs.Digits.{Below}
 
 pub length-low : (k n : ℕ) → length (lowBytesOf k n) ≡ k
 length-low zero n = refl
-length-low (suc k) n = ap suc (length-low k (n / 256))
+length-low (suc k) n = ap suc (length-low k _)
 
 -- byte i, and what is left behind it
 pub low-at : (k n i : ℕ) → i < k → getD (lowBytesOf k n) i 0 ≡ n / 256 ^ i % 256
