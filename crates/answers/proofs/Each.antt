@@ -1,13 +1,13 @@
 -- Rules one after the other: the first that refuses is the answer of all, and where none does they pass.
 -- Assumes nothing.
-use mathlib.Core.Path.{_≡_, refl, sym}
+use mathlib.Core.Path.{_≡_, refl}
 use mathlib.Core.Logic.{⊎-elim}
 use Prim.Native.Nat.{ℕ, zero, suc, _+_, _<_}
 use native.Mathlib.Nat.{le-of-suc-le-suc, eq-or-lt-of-le}
 use native.Mathlib.Numerals.{add-one}
 use native.Mathlib.Omega.{arith}
 use Rattle.answers.specs.declared.Refusal.{Refusal}
-use Rattle.answers.specs.Table.{Answer, passes, next, each}
+use Rattle.answers.specs.Table.{Answer, passes, each}
 use Rattle.answers.specs.Listed.{listed}
 use Rattle.answers.proofs.Next.{next-zero}
 use Rattle.answers.proofs.OneToOne.{refused-not-done}

@@ -7,7 +7,6 @@ use native.Mathlib.Nat.{mul-comm, mul-assoc}
 use native.Mathlib.Omega.{arith}
 use borrow.Author.Tests.{eq-eqb, ne-eqb}
 use lib.ListN.{length, getD, length-append}
-use Rattle.answers.specs.Lent.{joined}
 use Rattle.answers.proofs.Joined.{length-joined, joined-around, joined-same}
 use Rattle.numbers.specs.Words.{lowBytesOf}
 use Rattle.numbers.proofs.Low.{length-low}

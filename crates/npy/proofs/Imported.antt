@@ -1,12 +1,12 @@
 -- What import answers and leaves: a refusal leaves all as it was, and what passes is stored.
 -- Assumes nothing.
-use mathlib.Core.Path.{_≡_, refl, sym, ap, _∙_}
+use mathlib.Core.Path.{_≡_, sym}
 use mathlib.Core.List.{List, [], _∷_}
 use Prim.Native.Nat.{ℕ, _≤_}
 use native.Mathlib.Omega.{arith}
 use lib.ListN.{length}
 use Rattle.answers.specs.declared.Refusal.{Refusal}
-use Rattle.answers.specs.Table.{Answer, answer, wholes, passes}
+use Rattle.answers.specs.Table.{Answer, answer, wholes}
 use Rattle.answers.specs.Listed.{listed}
 use Rattle.answers.specs.Lent.{over}
 use Rattle.answers.proofs.Lent.{refused-leaves}

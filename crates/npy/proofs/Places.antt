@@ -1,7 +1,7 @@
 -- Where the entries of a file stand: one behind the other along a row, a row apart down a column, all within the file.
 -- Assumes nothing.
 use mathlib.Core.Path.{_≡_}
-use Prim.Native.Nat.{ℕ, suc, _+_, _*_, _≤_, _<_}
+use Prim.Native.Nat.{ℕ, _+_, _*_, _≤_, _<_}
 use native.Mathlib.Nat.{add-mul, one-mul, mul-le-mul}
 use native.Mathlib.Omega.{arith}
 use Rattle.layout.specs.Size.{maxRows}

@@ -1,27 +1,25 @@
 -- Export and then import gives the matrix back bit for bit, import and then export the file.
 -- Assumes nothing.
 use mathlib.Core.Path.{_≡_, refl, sym, ap, _∙_}
-use mathlib.Core.Bool.{true, false}
 use mathlib.Core.List.{List, [], _∷_, _++_}
 use mathlib.Core.Logic.{by-cases}
-use Prim.Native.Nat.{ℕ, zero, suc, min, max, _+_, _-_, _*_, _^_, _≤_, _<_}
+use Prim.Native.Nat.{ℕ, min, max, _+_, _-_, _*_, _≤_, _<_}
 use native.Mathlib.Decide.{decLt}
-use native.Mathlib.Nat.{mul-comm, mul-assoc}
+use native.Mathlib.Nat.{mul-assoc}
 use native.Mathlib.Omega.{arith}
-use borrow.Author.Tests.{eqb-true, eqb-false, eq-eqb, ne-eqb, lt-ltb, le-ltb}
+use borrow.Author.Tests.{eqb-true, eqb-false, eq-eqb, le-ltb}
 use lib.Dec.{eqb, ltb}
-use lib.ListN.{length, take, drop, getD, length-append, length-take, length-drop, take-append-drop, List·getD-eq-default}
+use lib.ListN.{length, take, drop, length-take, length-drop, take-append-drop, List·getD-eq-default}
 use lib.Seq.{take-all, take-at, getD-take, getD-drop, ext-getD}
-use Rattle.answers.specs.Table.{Answer, answer, wholes, pick, passes, next}
-use Rattle.answers.specs.Lent.{tab, joined}
+use Rattle.answers.specs.Table.{answer, wholes, passes, next}
 use Rattle.answers.proofs.Joined.{joined-same}
 use Rattle.answers.proofs.Lent.{length-tab, getD-tab}
 use Rattle.answers.proofs.Next.{next-zero, unheld}
 use Rattle.answers.proofs.Rules.{picked, by-bool}
 use Rattle.numbers.specs.Digits.{Below}
-use Rattle.numbers.specs.Words.{lowWordOf, lowBytesOf}
+use Rattle.numbers.specs.Words.{lowBytesOf}
 use Rattle.numbers.proofs.Low.{low-bytes-of-word}
-use Rattle.layout.specs.Size.{maxRows, limitRule}
+use Rattle.layout.specs.Size.{maxRows}
 use Rattle.layout.specs.Triangle.{slotsOf, slotOf, IsPair}
 use Rattle.layout.proofs.RowByRow.{row-by-row}
 use Rattle.rules.specs.Rules.{roomsRule}

@@ -17,7 +17,6 @@ ghost use mathlib.Core.Path.{_≡_};
 ghost use Prim.Native.Nat.{_≤_};
 ghost use lib.ListN.{length};
 ghost use Rattle.answers.specs.Listed.{checked};
-ghost use Rattle.layout.specs.Triangle.{slotsOf};
 ghost use Rattle.reader.specs.Listed.{readListed};
 ghost use Rattle.npy_header.specs.Header.{headerLength, sizeIn};
 ghost use Rattle.npy.specs.Rules.{sizeRules, fileRules, importRules, importAnswer};

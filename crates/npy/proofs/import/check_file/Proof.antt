@@ -1,9 +1,9 @@
 -- `import::check_file` meets its contract: the rules in their order.
 -- Assumes nothing.
-use mathlib.Core.Path.{_≡_, refl, sym, ap, _∙_}
+use mathlib.Core.Path.{sym, _∙_}
 use native.Mathlib.Omega.{arith}
 use borrow.Author.Needs.{needs}
-use Rattle.answers.specs.Table.{Answer, next}
+use Rattle.answers.specs.Table.{next}
 use Rattle.answers.proofs.Next.{check-passed, stops, goes}
 use Rattle.npy_header.specs.Header.{sizeIn}
 use Rattle.npy_header.specs.Rules.{headerRule}

@@ -1,6 +1,6 @@
 -- `import::check_import` meets its contract: the file's rules, and then the rooms.
 -- Assumes nothing.
-use mathlib.Core.Path.{_≡_, refl, sym, ap, _∙_}
+use mathlib.Core.Path.{sym, _∙_}
 use native.Mathlib.Omega.{arith}
 use borrow.Author.Needs.{needs}
 use Rattle.answers.proofs.Next.{check-passed, stops, goes}

@@ -1,11 +1,9 @@
 -- `import::import_npy` meets its contract: all is decided, and then stored.
 -- Assumes nothing.
-use mathlib.Core.Path.{_≡_, sym, ap, _∙_}
 use native.Mathlib.Omega.{arith}
 use borrow.Author.Needs.{needs}
-use lib.ListN.{length}
 use Rattle.answers.proofs.Next.{check-passed}
-use Rattle.npy.proofs.Imported.{Imported, kept, Ready, ready, stored}
+use Rattle.npy.proofs.Imported.{kept, Ready, ready, stored}
 use Rattle.npy.proofs.import.import_npy.Statement.{statement}
 use Rattle.npy.proofs.import.import_npy.Tie as tie
 
