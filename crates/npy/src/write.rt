@@ -10,18 +10,21 @@ ghost use Rattle.npy_header.specs.Header.{headerLength};
 ghost use Rattle.npy.specs.File.{fileLength, rowBytes, bodyOf};
 ghost use Rattle.npy.specs.Parts.{leftBytes, rightBytes};
 
-// Row i before the diagonal: column i of the rows above, each of whose first slots is carried along.
+// Row i before the diagonal: column i of the rows above, whose slots lie one closer in each row.
 fn put_left(i: usize, rows: usize, correlations: &[u64], at: usize, out: &mut [u8])
     requires { ⌜ (i < rows) × (slotsOf rows ≤ length (now correlations)) × (at + 8 * i ≤ length (now out)) ⌝ }
     ensures { λ _. ⌜ now (out .exit)
         ≡ sets (now (out .entry)) at (leftBytes rows (now (correlations .entry)) i) ⌝ }
 {
-    let mut first: usize = 0;
+    // one behind slot (j, i), and from there to the one behind slot (j + 1, i) one less than the step
+    let mut behind = i;
+    let mut step = rows - 1;
     let mut next = at;
     let mut j: usize = 0;
     while j < i {
-        put_entry(correlations[first + (i - 1 - j)], next, out);
-        first += rows - 1 - j;
+        put_entry(correlations[behind - 1], next, out);
+        step -= 1;
+        behind += step;
         next += 8;
         j += 1;
     }
