@@ -1,4 +1,4 @@
-pub mod Numbers
+pub mod Entries
 pub mod Fits
 pub mod Printed
 pub mod OneAnswer

@@ -2,17 +2,25 @@
 use Prim.Native.Nat.{ℕ}
 use mathlib.Core.List.{List, [], _∷_, _++_}
 use lib.ListN.{length, getD}
-use Rattle.answers.specs.Table.{Answer, plains}
+use Rattle.answers.specs.Table.{Entry, whole, bits64, Answer, wholes}
 use Rattle.answers.specs.Lent.{joined}
 use Rattle.text.specs.Text.{ascii, space, newline, named, spacedBits}
 
--- ---- a refusal: its number, then its numbers in decimal, one space between
-abbrev pub numbers : List ℕ → List ℕ
-numbers [] = []
-numbers (n ∷ ns) = named space n ++ numbers ns
+-- ---- what an answer carries, each entry behind a space: a whole number in decimal, a binary64 by its bits
+abbrev pub entryText : Entry → List ℕ
+entryText (whole n) = named space n
+entryText (bits64 b) = spacedBits b
 
+abbrev pub entries : List Entry → List ℕ
+entries [] = []
+entries (e ∷ es) = entryText e ++ entries es
+
+abbrev pub numbers : List ℕ → List ℕ
+numbers ns = entries (wholes ns)
+
+-- ---- a refusal: its number, then what it carries
 abbrev pub refusedText : Answer → List ℕ
-refusedText a = named (ascii "refused ") (a .number) ++ numbers (plains (a .carries))
+refusedText a = named (ascii "refused ") (a .number) ++ entries (a .carries)
 
 abbrev pub refusedLine : Answer → List ℕ
 refusedLine a = refusedText a ++ newline

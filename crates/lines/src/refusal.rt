@@ -1,5 +1,5 @@
-//! The line of a refusal: its number and its numbers.
-use crate::values::put_values;
+//! The line of a refusal: its number and what it carries.
+use crate::values::put_entries;
 use answers::Refusal;
 use answers::row::row_of;
 use text::put::put_byte;
@@ -15,7 +15,7 @@ pub fn put_refused(refusal: Refusal, at: usize, out: &mut [u8]) -> usize
     let row = row_of(refusal);
     let values = row.values;
     let numbered = put_named(b"refused ", row.number, at, out);
-    put_values(row.count, values, numbered, out)
+    put_entries(row.count, values, row.floats, numbered, out)
 }
 
 // As a line.
