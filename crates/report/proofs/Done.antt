@@ -59,7 +59,7 @@ answer-length most few bytes rows d c s =
     (λ _. line-length most (readAnswer bytes d c s) (few-read bytes d c s))
 
 -- ---- what stands at the front of lent memory after an answer that is done
-left-front : (front lent : List ℕ) (a : Answer) {l : List ℕ} {k : ℕ} → a .number ≡ 0 → l ≡ leaves a front lent → k ≡ length front → take k l ≡ front
+pub left-front : (front lent : List ℕ) (a : Answer) {l : List ℕ} {k : ℕ} → a .number ≡ 0 → l ≡ leaves a front lent → k ≡ length front → take k l ≡ front
 left-front front lent a z e q = rw (e, z, q) (take-at front (drop (length front) lent) (length front) refl)
 
 -- the numbers that it carries
