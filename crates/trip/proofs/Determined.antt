@@ -133,7 +133,8 @@ use Rattle.npy.proofs.import.import_npy.Reads as import-npy
 use Rattle.matrix.proofs.OneAnswer.{correlation-one, usable-one}
 use Rattle.matrix.proofs.lookup.correlation.Reads as correlation
 use Rattle.matrix.proofs.usable.usable.Reads as usable
-use Rattle.lines.proofs.OneAnswer.{put-values-one, put-refused-one, put-refusal-one, put-counts-one, put-line-one, put-rows-one}
+use Rattle.lines.proofs.OneAnswer.{put-entries-one, put-values-one, put-refused-one, put-refusal-one, put-counts-one, put-line-one, put-rows-one}
+use Rattle.lines.proofs.values.put_entries.Reads as put-entries
 use Rattle.lines.proofs.values.put_values.Reads as put-values
 use Rattle.lines.proofs.refusal.put_refused.Reads as put-refused
 use Rattle.lines.proofs.refusal.put_refusal.Reads as put-refusal
@@ -160,6 +161,9 @@ use Rattle.packs.proofs.first.put_set.Reads as put-set
 use Rattle.packs.proofs.first.put_first.Reads as put-first
 use Rattle.packs.proofs.tags.put_tags.Reads as put-tags
 use Rattle.packs.proofs.pack.put_pack_of.Reads as put-pack-of
+use Rattle.convert.proofs.OneAnswer.{npy-of-pack-one, pack-of-npy-one}
+use Rattle.convert.proofs.file.npy_of_pack.Reads as npy-of-pack
+use Rattle.convert.proofs.pack.pack_of_npy.Reads as pack-of-npy
 use Rattle.replies.proofs.OneAnswer.{letter-one, is-field-one, one-one, words-one, refused-one, special-of-one, special-one, of-mapped-one, widen-one, narrow-one, float-of-one, of-oid-one, of-strict-oid-one, of-ber-one, of-written-one, of-peek-one, of-read-one, of-cell-one, of-usable-one, of-set-one, of-place-one, put-reply-one}
 use Rattle.replies.proofs.forms.letter.Reads as letter
 use Rattle.replies.proofs.forms.is_field.Reads as is-field
@@ -323,6 +327,7 @@ pub record Determined : Type 0 where
   pub correlation-determined : OneResult correlation.Learnt
   pub usable-determined : OneResult usable.Learnt
   -- what the programs print
+  pub put-entries-determined : OneAnswer put-entries.Learnt (λ κs s. now (s .1 .1 .1 .1 .0))
   pub put-values-determined : OneAnswer put-values.Learnt (λ κs s. now (s .1 .1 .1 .0))
   pub put-refused-determined : OneAnswer put-refused.Learnt (λ κs s. now (s .1 .1 .0))
   pub put-refusal-determined : OneAnswer put-refusal.Learnt (λ κs s. now (s .1 .1 .0))
@@ -339,6 +344,8 @@ pub record Determined : Type 0 where
   pub put-tags-determined : OneAnswer put-tags.Learnt (λ κs s. now (s .1 .1 .0))
   pub put-pack-of-determined : OneAnswer {L = List ℕ × List ℕ × List ℕ × List ℕ} put-pack-of.Learnt
       (λ κs s. (now (s .1 .1 .1 .0), now (s .1 .1 .1 .1 .0), now (s .1 .1 .1 .1 .1 .0), now (s .1 .1 .1 .1 .1 .1 .1 .0)))
+  pub npy-of-pack-determined : OneAnswer npy-of-pack.Learnt (λ κs s. now (s .1 .0))
+  pub pack-of-npy-determined : OneAnswer pack-of-npy.Learnt (λ κs s. now (s .1 .1 .0))
   pub put-reason-determined : OneAnswer put-reason.Learnt (λ κs s. now (s .1 .1 .1 .1 .1 .1 .0))
   pub put-gap-determined : OneAnswer put-gap.Learnt (λ κs s. now (s .1 .1 .0))
   pub put-elements-determined : OneAnswer put-elements.Learnt (λ κs s. now (s .1 .1 .1 .0))
@@ -492,6 +499,7 @@ determined =
       import-npy-determined = import-npy-one;
       correlation-determined = correlation-one;
       usable-determined = usable-one;
+      put-entries-determined = put-entries-one;
       put-values-determined = put-values-one;
       put-refused-determined = put-refused-one;
       put-refusal-determined = put-refusal-one;
@@ -506,6 +514,8 @@ determined =
       put-first-determined = put-first-one;
       put-tags-determined = put-tags-one;
       put-pack-of-determined = put-pack-of-one;
+      npy-of-pack-determined = npy-of-pack-one;
+      pack-of-npy-determined = pack-of-npy-one;
       put-reason-determined = put-reason-one;
       put-gap-determined = put-gap-one;
       put-elements-determined = put-elements-one;
