@@ -34,10 +34,12 @@ use Rattle.writer.specs.Pack.{packBytes}
 use Rattle.writer.specs.Rules.{writeAnswer}
 use Rattle.writer.proofs.Lengths.{length-form, never-longer}
 use Rattle.npy_header.specs.Header.{sizeIn}
-use Rattle.npy.specs.File.{fileLength, deviationsIn, correlationsIn}
-use Rattle.npy.specs.Rules.{countRule, pairRules, fileRules, exportAnswer, importAnswer}
+use Rattle.npy_export.specs.File.{fileLength}
+use Rattle.npy.specs.Matrix.{deviationsIn, correlationsIn}
+use Rattle.npy_export.specs.Rules.{countRule, exportAnswer}
+use Rattle.npy.specs.Rules.{pairRules, fileRules, importAnswer}
 use Rattle.npy.proofs.Held.{file-held}
-use Rattle.npy.proofs.Passed.{limit-tells}
+use Rattle.npy_export.proofs.Passed.{limit-tells}
 use Rattle.lines.specs.Lines.{refusedText}
 use Rattle.lines.proofs.Fits.{Few, refused-length}
 use Rattle.report.proofs.Fits.{few-answer}

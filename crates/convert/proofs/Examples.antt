@@ -15,7 +15,8 @@ use Rattle.text.specs.Numeral.{worth}
 use Rattle.writer.specs.Pack.{formBytes}
 use Rattle.writer.specs.Rules.{defaultClen}
 use Rattle.npy_header.specs.Header.{header, sizeIn, breakIn}
-use Rattle.npy.specs.File.{bodyOf, correlationsIn}
+use Rattle.npy_export.specs.File.{bodyOf}
+use Rattle.npy.specs.Matrix.{correlationsIn}
 use Rattle.npy.specs.Rules.{pairRules}
 use Rattle.convert.specs.Stream.{output, errors}
 use Rattle.convert.specs.Converted.{npyStream, packStream}

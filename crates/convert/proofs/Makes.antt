@@ -21,12 +21,14 @@ use Rattle.plan.specs.Rules.{countRules, rangeRules}
 use Rattle.writer.specs.Pack.{packBytes}
 use Rattle.writer.specs.Rules.{writeAnswer}
 use Rattle.npy_header.specs.Header.{sizeIn}
-use Rattle.npy.specs.File.{fileLength, fileOf, deviationsIn, correlationsIn}
-use Rattle.npy.specs.Rules.{exportRules, exportAnswer, importRules, importAnswer}
-use Rattle.npy.proofs.Body.{length-file}
+use Rattle.npy_export.specs.File.{fileLength, fileOf}
+use Rattle.npy.specs.Matrix.{deviationsIn, correlationsIn}
+use Rattle.npy_export.specs.Rules.{exportRules, exportAnswer}
+use Rattle.npy.specs.Rules.{importRules, importAnswer}
+use Rattle.npy_export.proofs.Body.{length-file}
 use Rattle.npy.proofs.Imported.{Imported}
 use Rattle.npy.proofs.Matrix.{length-correlations}
-use Rattle.npy.proofs.Passed.{exports, room-tells}
+use Rattle.npy_export.proofs.Passed.{exports, room-tells}
 use Rattle.packs.specs.Printed.{maxRows, maxSlots}
 use Rattle.convert.specs.Converted.{npyAnswer, npyOf, packAnswer, packOf}
 use Rattle.convert.proofs.Given.{Given}

@@ -9,8 +9,10 @@ use Rattle.reader.specs.Rules.{readAnswer}
 use Rattle.writer.specs.Pack.{packBytes}
 use Rattle.writer.specs.Rules.{defaultClen, writeAnswer}
 use Rattle.npy_header.specs.Header.{sizeIn}
-use Rattle.npy.specs.File.{fileOf, deviationsIn, correlationsIn}
-use Rattle.npy.specs.Rules.{exportAnswer, importAnswer}
+use Rattle.npy_export.specs.File.{fileOf}
+use Rattle.npy.specs.Matrix.{deviationsIn, correlationsIn}
+use Rattle.npy_export.specs.Rules.{exportAnswer}
+use Rattle.npy.specs.Rules.{importAnswer}
 use Rattle.report.specs.Lines.{tooBigLine}
 use Rattle.packs.specs.Printed.{isTooBig, maxRows, maxSlots}
 use Rattle.convert.specs.declared.pack.Clen.{Clen}

@@ -4,7 +4,7 @@ use mathlib.Core.Path.{_≡_}
 use mathlib.Core.List.{List}
 use lib.ListN.{length}
 use Rattle.answers.specs.Table.{Answer}
-use Rattle.npy.specs.File.{fileLength}
+use Rattle.npy_export.specs.File.{fileLength}
 use Rattle.packs.specs.Printed.{maxRows, maxSlots}
 use Rattle.convert.specs.Stream.{Stream, bytesOf}
 use Rattle.convert.specs.Converted.{npyAnswer, npyStream, packAnswer, packStream}

@@ -6,7 +6,7 @@ use crate::stream::Streamed;
 use crate::stream::refused;
 use crate::stream::too_big;
 use answers::Written;
-use npy::export::export_npy;
+use npy_export::export::export_npy;
 use packs::first::is_too_big;
 use packs::pack::MAX_ROWS;
 use reader::read::ReadAnswer;

@@ -19,7 +19,8 @@ use Rattle.layout.specs.Triangle.{slotOf, IsPair}
 use Rattle.layout.proofs.RowByRow.{row-along}
 use Rattle.elements.specs.Elements.{part}
 use Rattle.npy_header.specs.Header.{header, maxSize}
-use Rattle.npy.specs.File.{entryOf, entryBytes, rowBytes, bodyOf, fileOf, placeOf, entryIn, rowIn, correlationsIn}
+use Rattle.npy_export.specs.File.{entryOf, entryBytes, rowBytes, bodyOf, fileOf}
+use Rattle.npy.specs.Matrix.{placeOf, entryIn, rowIn, correlationsIn}
 use Rattle.npy_header.proofs.Headers.{length-header}
 use Rattle.npy.proofs.Matrix.{length-rows}
 

@@ -11,9 +11,10 @@ use Rattle.layout.specs.Size.{maxRows, limitRule}
 use Rattle.npy_header.specs.Header.{headerLength, sizeIn}
 use Rattle.npy_header.specs.Rules.{headerRule}
 use Rattle.npy_header.proofs.Held.{header-held}
-use Rattle.npy.specs.File.{bodyLength, fileLength}
-use Rattle.npy.specs.Rules.{countRule, sizeRules, pairRules, fileRules}
-use Rattle.npy.proofs.Passed.{limit-tells, count-tells}
+use Rattle.npy_export.specs.File.{bodyLength, fileLength}
+use Rattle.npy_export.specs.Rules.{countRule}
+use Rattle.npy.specs.Rules.{sizeRules, pairRules, fileRules}
+use Rattle.npy_export.proofs.Passed.{limit-tells, count-tells}
 
 module _ (file : List ℕ) where
   pub record Held (n : ℕ) : Type 0 where

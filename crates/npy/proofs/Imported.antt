@@ -17,7 +17,8 @@ use Rattle.layout.specs.Triangle.{slotsOf}
 use Rattle.rules.specs.Rules.{roomsRule}
 use Rattle.rules.proofs.Held.{Rooms, rooms-for}
 use Rattle.npy_header.specs.Header.{sizeIn}
-use Rattle.npy.specs.File.{fileLength, deviationsIn, correlationsIn, statesIn}
+use Rattle.npy_export.specs.File.{fileLength}
+use Rattle.npy.specs.Matrix.{deviationsIn, correlationsIn, statesIn}
 use Rattle.npy.specs.Rules.{fileRules, importRules, importAnswer}
 use Rattle.npy.specs.Left.{leftDeviations, leftCorrelations, leftStates}
 use Rattle.npy.proofs.Held.{file-held}

@@ -1,7 +1,4 @@
 pub mod Places
-pub mod Body
-pub mod Put
-pub mod Passed
 pub mod Matrix
 pub mod Held
 pub mod Imported

@@ -12,7 +12,7 @@ use Rattle.answers.proofs.Lent.{length-tab}
 use Rattle.answers.proofs.Stored.{sets-more}
 use Rattle.layout.specs.Triangle.{slotsOf, slotOf}
 use Rattle.layout.proofs.RowByRow.{row-first, row-next}
-use Rattle.npy.specs.File.{entryIn, rowIn, correlationsIn}
+use Rattle.npy.specs.Matrix.{entryIn, rowIn, correlationsIn}
 
 -- behind the last row
 last-slot : (n : ℕ) → slotOf n n (n + 1) ≡ slotsOf n

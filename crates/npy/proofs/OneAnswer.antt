@@ -4,16 +4,10 @@ use mathlib.Core.List.{List}
 use Prim.Native.Nat.{ℕ}
 use denote.Ref.{now}
 use Rattle.answers.specs.OneAnswer.{OneAnswer}
-use Rattle.answers.specs.Lent.{leaves}
-use Rattle.answers.proofs.OneToOne.{writer-one}
 use Rattle.reader.proofs.OneAnswer.{reads-one}
 use Rattle.npy_header.specs.Header.{sizeIn}
-use Rattle.npy.specs.File.{fileOf, deviationsIn, correlationsIn, statesIn}
-use Rattle.npy.proofs.export.export_npy.Reads as export-npy
+use Rattle.npy.specs.Matrix.{deviationsIn, correlationsIn, statesIn}
 use Rattle.npy.proofs.import.import_npy.Reads as import-npy
-
-pub export-npy-one : OneAnswer export-npy.Learnt (λ κs s. now (s .1 .1 .1 .0))
-export-npy-one κs a r r′ s s′ p q = writer-one (λ x. leaves x (fileOf (a .0) (now (a .1 .0)) (now (a .1 .1 .0))) (now (a .1 .1 .1 .0))) r r′ p q
 
 pub import-npy-one : OneAnswer {L = List ℕ × List ℕ × List ℕ} import-npy.Learnt (λ κs s. (now (s .1 .0), now (s .1 .1 .0), now (s .1 .1 .1 .0)))
 import-npy-one κs a r r′ s s′ p q =

@@ -4,8 +4,8 @@ use mathlib.Core.Path.{_≡_}
 use Prim.Native.Nat.{ℕ, _+_, _*_, _≤_, _<_}
 use native.Mathlib.Nat.{add-mul, one-mul, mul-le-mul}
 use native.Mathlib.Omega.{arith}
-use Rattle.layout.specs.Size.{maxRows}
-use Rattle.npy.specs.File.{fileLength, placeOf}
+use Rattle.npy_export.specs.File.{fileLength}
+use Rattle.npy.specs.Matrix.{placeOf}
 
 module _ (n : ℕ) where
   pub place-along : (i j : ℕ) → placeOf n i (j + 1) ≡ placeOf n i j + 8
@@ -16,7 +16,3 @@ module _ (n : ℕ) where
 
   pub place-fits : (i j : ℕ) → i < n → j < n → placeOf n i j + 8 ≤ fileLength n
   place-fits i j h k = omega (arith, add-mul i 1 n, one-mul n, mul-le-mul {n₁ = i + 1} {m₁ = n} {n₂ = n} {m₂ = n} (omega arith) (omega arith))
-
-  -- within the limit no place comes near the largest number of 64 bits
-  pub few-entries : (i : ℕ) → n ≤ maxRows → i ≤ n → i * n ≤ maxRows * maxRows
-  few-entries i h k = mul-le-mul {n₁ = i} {m₁ = n} {n₂ = maxRows} {m₂ = maxRows} (omega arith) h

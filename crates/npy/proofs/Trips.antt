@@ -28,13 +28,14 @@ use Rattle.matrix.specs.Lookup.{number, cellAnswer}
 use Rattle.matrix.proofs.Cells.{entry-held, diagonal as diagonal-cell, pair as pair-cell}
 use Rattle.npy_header.specs.Header.{headerLength, header, maxSize, sizeIn, breakIn}
 use Rattle.npy_header.specs.Rules.{brokenAt, headerRule}
-use Rattle.npy.specs.File.{bodyLength, fileLength, entryOf, entryBytes, rowBytes, bodyOf, fileOf, placeOf, entryIn, deviationsIn, correlationsIn}
+use Rattle.npy_export.specs.File.{bodyLength, fileLength, entryOf, entryBytes, rowBytes, bodyOf, fileOf}
+use Rattle.npy.specs.Matrix.{placeOf, entryIn, deviationsIn, correlationsIn}
 use Rattle.npy.specs.Rules.{pairRule, rowRules, pairRules, sizeRules, fileRules, importRules, importAnswer}
 use Rattle.npy.specs.Trips.{IsMatrix, packFor, ExportImport, Shown, ImportExport}
 use Rattle.answers.proofs.Each.{each-all, each-passes}
 use Rattle.npy_header.proofs.Headers.{length-header}
 use Rattle.npy_header.proofs.Breaks.{header-read}
-use Rattle.npy.proofs.Body.{length-file, entry-left, entry-diagonal, entry-right}
+use Rattle.npy_export.proofs.Body.{length-file, entry-left, entry-diagonal, entry-right}
 use Rattle.npy.proofs.Held.{Held, file-held}
 use Rattle.npy.proofs.Places.{place-fits}
 use Rattle.npy.proofs.Matrix.{length-correlations}

@@ -4,7 +4,7 @@ use mathlib.Core.List.{List}
 use Rattle.answers.specs.Table.{Answer}
 use Rattle.answers.specs.Lent.{leaves}
 use Rattle.npy_header.specs.Header.{sizeIn}
-use Rattle.npy.specs.File.{deviationsIn, correlationsIn, statesIn}
+use Rattle.npy.specs.Matrix.{deviationsIn, correlationsIn, statesIn}
 
 module _ (a : Answer) (file lent : List ℕ) where
   abbrev pub leftDeviations : List ℕ

@@ -1,5 +1,4 @@
-pub mod File
-pub mod Parts
+pub mod Matrix
 pub mod Rules
 pub mod Left
 pub mod Trips

@@ -1,31 +1,18 @@
--- Document 02, K8: what export and import refuse, in its order, and what they answer otherwise.
+-- Document 02, K8: what import refuses, in its order, and what it answers otherwise.
 use Prim.Native.Nat.{ℕ, _+_, _-_}
 use mathlib.Core.List.{List, [], _∷_}
 use lib.Dec.{eqb}
 use lib.ListN.{length}
-use Rattle.answers.specs.Table.{Answer, answer, wholes, pick, passes, next, each, roomRule}
+use Rattle.answers.specs.Table.{Answer, answer, wholes, pick, passes, next, each}
 use Rattle.layout.specs.Size.{limitRule}
 use Rattle.layout.specs.Triangle.{slotsOf}
 use Rattle.rules.specs.Rules.{roomsRule}
 use Rattle.npy_header.specs.Header.{headerLength, sizeIn}
 use Rattle.npy_header.specs.Rules.{headerRule}
-use Rattle.npy.specs.File.{bodyLength, fileLength, entryIn}
+use Rattle.npy_export.specs.File.{bodyLength}
+use Rattle.npy_export.specs.Rules.{countRule}
+use Rattle.npy.specs.Matrix.{entryIn}
 
--- a count that is not the one expected: 2 with both
-abbrev pub countRule : ℕ → ℕ → Answer
-countRule expected got = pick (eqb expected got) passes (answer 2 (wholes (expected ∷ got ∷ [])))
-
--- ---- export, of so many deviations and correlations, given the room
--- N above the limit: 3; then the deviation count, which is to be N; then the correlation count, which is to be M; then 5
-abbrev pub exportRules : ℕ → ℕ → ℕ → ℕ → Answer
-exportRules n ds cs room =
-    next (limitRule n) (next (countRule n ds) (next (countRule (slotsOf n) cs) (roomRule (fileLength n) room)))
-
--- done carries the file's length
-abbrev pub exportAnswer : ℕ → ℕ → ℕ → ℕ → Answer
-exportAnswer n ds cs room = next (exportRules n ds cs room) (answer 0 (wholes (fileLength n ∷ [])))
-
--- ---- import
 -- two entries that differ in any bit: 12 with i, j
 abbrev pub pairRule : List ℕ → ℕ → ℕ → ℕ → Answer
 pairRule file n i j =

@@ -11,8 +11,10 @@ use Rattle.layout.specs.Size.{maxRows}
 use Rattle.layout.specs.Triangle.{slotsOf, slotOf, IsPair}
 use Rattle.matrix.specs.Lookup.{number, cellAnswer}
 use Rattle.npy_header.specs.Header.{sizeIn}
-use Rattle.npy.specs.File.{fileLength, fileOf, entryIn, deviationsIn, correlationsIn, statesIn}
-use Rattle.npy.specs.Rules.{exportAnswer, importAnswer}
+use Rattle.npy_export.specs.File.{fileLength, fileOf}
+use Rattle.npy.specs.Matrix.{entryIn, deviationsIn, correlationsIn, statesIn}
+use Rattle.npy_export.specs.Rules.{exportAnswer}
+use Rattle.npy.specs.Rules.{importAnswer}
 
 -- ---- from a matrix: n rows, with a deviation to each and a correlation to each pair
 module _ (n : ℕ) (ds cs : List ℕ) where

@@ -1,5 +1,4 @@
 //! Import: the matrix of a .npy file.
-use crate::entry::body_length;
 use crate::pairs::check_pairs;
 use crate::store::store_correlations;
 use crate::store::store_deviations;
@@ -34,7 +33,8 @@ fn check_size(file: &[u8], n: u64) -> Check
             most: SdccFlp::MAX_ROWS,
         });
     }
-    let expected = body_length(n as usize);
+    let rows = n as usize;
+    let expected = 8 * (rows * rows);
     let got = file.len() - HEADER_LENGTH;
     if got != expected {
         return Check::Refused(Refusal::InvalidLength { expected, got });

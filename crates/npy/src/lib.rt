@@ -1,7 +1,5 @@
-//! Matrices to and from NumPy's .npy files.
+//! The matrix of a NumPy .npy file; and what export and import make of each other.
 mod entry;
-pub mod export;
 pub mod import;
 mod pairs;
 mod store;
-mod write;

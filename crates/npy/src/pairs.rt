@@ -8,7 +8,7 @@ ghost use Prim.Native.Nat.{_≤_, _<_};
 ghost use lib.ListN.{length};
 ghost use Rattle.answers.specs.Listed.{checked};
 ghost use Rattle.layout.specs.Size.{maxRows};
-ghost use Rattle.npy.specs.File.{fileLength};
+ghost use Rattle.npy_export.specs.File.{fileLength};
 ghost use Rattle.npy.specs.Rules.{rowRules, pairRules};
 
 // Along row i, and down column i.

@@ -8,7 +8,8 @@ ghost use lib.Seq.{sets};
 ghost use Rattle.answers.specs.Lent.{over, tab};
 ghost use Rattle.layout.specs.Size.{maxRows};
 ghost use Rattle.layout.specs.Triangle.{slotsOf, slotOf};
-ghost use Rattle.npy.specs.File.{fileLength, deviationsIn, rowIn, correlationsIn};
+ghost use Rattle.npy_export.specs.File.{fileLength};
+ghost use Rattle.npy.specs.Matrix.{deviationsIn, rowIn, correlationsIn};
 
 // The diagonal.
 pub(crate) fn store_deviations(file: &[u8], rows: usize, deviations: &mut [u64])

@@ -34,10 +34,10 @@ pub fn read_le(bytes: &[u8]) -> u64
     ensures { λ r. ⌜ r ≡ lowWordOf (now (bytes .entry)) ⌝ }
 {
     let mut value: u64 = 0;
-    let mut i = bytes.len();
-    while 0 < i {
-        i -= 1;
-        value = value % 0x100_0000_0000_0000 * 256 + crate::wide(bytes[i]);
+    let mut at = bytes.len();
+    while 0 < at {
+        at -= 1;
+        value = value % 0x100_0000_0000_0000 * 256 + crate::wide(bytes[at]);
     }
     value
 }
@@ -46,11 +46,11 @@ pub fn read_le(bytes: &[u8]) -> u64
 pub fn write_le(value: u64, part: &mut [u8])
     ensures { λ _. ⌜ now (part .exit) ≡ lowBytesOf (length (now (part .entry))) value ⌝ }
 {
-    let mut left = value;
+    let mut rest = value;
     let mut i: usize = 0;
     while i < part.len() {
-        part[i] = (left % 256) as u8;
-        left = left / 256;
+        part[i] = (rest % 256) as u8;
+        rest = rest / 256;
         i += 1;
     }
 }

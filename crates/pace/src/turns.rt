@@ -7,8 +7,8 @@ use crate::job::Job;
 use crate::job::Op;
 use layout::size::Peek;
 use layout::size::peek_matrix_size;
-use npy::export::export_npy;
 use npy::import::import_npy;
+use npy_export::export::export_npy;
 use reader::read::decode_sdcc_flp;
 use writer::write::encode_sdcc_flp_mode2;
 

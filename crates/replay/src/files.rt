@@ -2,8 +2,8 @@
 use crate::lists::correlations;
 use crate::lists::deviations;
 use answers::Written;
-use npy::export::export_npy;
 use npy::import::import_npy;
+use npy_export::export::export_npy;
 use reader::read::ReadAnswer;
 use requests::request::Request;
 

@@ -127,8 +127,9 @@ use Rattle.npy_header.proofs.OneAnswer.{write-header-one, size-in-one, check-he
 use Rattle.npy_header.proofs.header.write_header.Reads as write-header
 use Rattle.npy_header.proofs.check.size_in.Reads as size-in
 use Rattle.npy_header.proofs.check.check_header.Reads as check-header
-use Rattle.npy.proofs.OneAnswer.{export-npy-one, import-npy-one}
-use Rattle.npy.proofs.export.export_npy.Reads as export-npy
+use Rattle.npy_export.proofs.OneAnswer.{export-npy-one}
+use Rattle.npy.proofs.OneAnswer.{import-npy-one}
+use Rattle.npy_export.proofs.export.export_npy.Reads as export-npy
 use Rattle.npy.proofs.import.import_npy.Reads as import-npy
 use Rattle.matrix.proofs.OneAnswer.{correlation-one, usable-one}
 use Rattle.matrix.proofs.lookup.correlation.Reads as correlation

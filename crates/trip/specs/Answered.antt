@@ -18,7 +18,8 @@ use Rattle.rules.specs.Named.{ruleOf}
 use Rattle.rules.specs.Rules.{packRules, roomsRule, roomRules}
 use Rattle.codes.specs.Store.{storeRules}
 use Rattle.npy_header.specs.Rules.{headerWritten, headerRule}
-use Rattle.npy.specs.Rules.{exportAnswer, importAnswer}
+use Rattle.npy_export.specs.Rules.{exportAnswer}
+use Rattle.npy.specs.Rules.{importAnswer}
 use Rattle.plan.specs.Rules.{planRules}
 use Rattle.slots.specs.Rules.{slotsRules}
 use Rattle.layout.specs.declared.pack.SdccFlp.{SdccFlp}

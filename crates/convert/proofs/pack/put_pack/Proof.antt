@@ -5,7 +5,7 @@ use native.Mathlib.Omega.{arith}
 use borrow.Author.Needs.{needs}
 use lib.Seq.{length-take-le}
 use Rattle.npy_header.specs.Header.{sizeIn}
-use Rattle.npy.specs.File.{deviationsIn, correlationsIn}
+use Rattle.npy.specs.Matrix.{deviationsIn, correlationsIn}
 use Rattle.npy.specs.Rules.{importAnswer}
 use Rattle.packs.specs.Printed.{maxRows, maxSlots}
 use Rattle.convert.specs.Converted.{clenOf, packOf}

@@ -2,7 +2,7 @@
 -- Assumes nothing.
 use mathlib.Core.Path.{refl}
 use native.Mathlib.Omega.{arith}
-use Rattle.npy.proofs.Places.{few-entries}
+use Rattle.npy_export.proofs.Body.{few-entries}
 use Rattle.npy.proofs.entry.place.Statement.{statement}
 use Rattle.npy.proofs.entry.place.Tie as tie
 

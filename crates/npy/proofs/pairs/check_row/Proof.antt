@@ -8,10 +8,11 @@ use borrow.Author.Needs.{needs}
 use borrow.Author.Tests.{eq-eqb, ne-eqb}
 use Rattle.answers.specs.declared.Refusal.the-variants.{Asymmetric}
 use Rattle.answers.specs.Table.{Answer, passes, each}
-use Rattle.npy.specs.File.{placeOf, entryIn}
+use Rattle.npy.specs.Matrix.{placeOf, entryIn}
 use Rattle.npy.specs.Rules.{pairRule}
 use Rattle.answers.proofs.Each.{each-more, each-stops}
-use Rattle.npy.proofs.Places.{place-along, place-down, place-fits, few-entries}
+use Rattle.npy.proofs.Places.{place-along, place-down, place-fits}
+use Rattle.npy_export.proofs.Body.{few-entries}
 use Rattle.npy.proofs.pairs.check_row.Statement.{statement}
 use Rattle.npy.proofs.pairs.check_row.Tie as tie
 

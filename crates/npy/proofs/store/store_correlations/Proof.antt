@@ -11,7 +11,7 @@ use Rattle.answers.specs.Lent.{joined}
 use Rattle.answers.proofs.Stored.{sets-over}
 use Rattle.layout.specs.Triangle.{slotOf}
 use Rattle.layout.proofs.RowByRow.{row-first, row-next, row-within, few-slots}
-use Rattle.npy.specs.File.{rowIn, correlationsIn}
+use Rattle.npy.specs.Matrix.{rowIn, correlationsIn}
 use Rattle.npy.proofs.Matrix.{length-correlations, stored-row}
 use Rattle.npy.proofs.store.store_correlations.Statement.{statement}
 use Rattle.npy.proofs.store.store_correlations.Tie as tie

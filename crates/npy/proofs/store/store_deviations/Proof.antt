@@ -6,8 +6,9 @@ use native.Mathlib.Omega.{arith}
 use borrow.Author.Needs.{needs}
 use Rattle.answers.proofs.Lent.{Front}
 use Rattle.answers.proofs.Tab.{tab-none, tab-room, tab-more, tab-done}
-use Rattle.npy.specs.File.{placeOf, entryIn, deviationsIn}
-use Rattle.npy.proofs.Places.{place-along, place-down, place-fits, few-entries}
+use Rattle.npy.specs.Matrix.{placeOf, entryIn, deviationsIn}
+use Rattle.npy.proofs.Places.{place-along, place-down, place-fits}
+use Rattle.npy_export.proofs.Body.{few-entries}
 use Rattle.npy.proofs.store.store_deviations.Statement.{statement}
 use Rattle.npy.proofs.store.store_deviations.Tie as tie
 

@@ -12,8 +12,9 @@ use Rattle.answers.specs.Lent.{tab}
 use Rattle.answers.proofs.Stored.{sets-tab}
 use Rattle.layout.specs.Size.{maxSlots}
 use Rattle.layout.specs.Triangle.{slotsOf}
-use Rattle.npy.specs.File.{placeOf, entryIn}
-use Rattle.npy.proofs.Places.{place-along, place-fits, few-entries}
+use Rattle.npy.specs.Matrix.{placeOf, entryIn}
+use Rattle.npy.proofs.Places.{place-along, place-fits}
+use Rattle.npy_export.proofs.Body.{few-entries}
 use Rattle.npy.proofs.store.store_row.Statement.{statement}
 use Rattle.npy.proofs.store.store_row.Tie as tie
 

@@ -14,11 +14,11 @@ use Rattle.numbers.proofs.words.write_le.Statement.{statement}
 use Rattle.numbers.proofs.words.write_le.Tie as tie
 
 abbrev Inv-loop : tie.InvT-loop
-Inv-loop value part₀ left₀ i₀ part left i =
-    Front (lowBytesOf (length part₀) value) part₀ i part × (left ≡ value / 256 ^ i)
+Inv-loop value part₀ rest₀ i₀ part rest i =
+    Front (lowBytesOf (length part₀) value) part₀ i part × (rest ≡ value / 256 ^ i)
 
 abbrev μ-loop : tie.MeasureT-loop
-μ-loop value part₀ left₀ i₀ part left i = length part - i
+μ-loop value part₀ rest₀ i₀ part rest i = length part - i
 
 loop-holds : tie.Need-loop-holds Inv-loop μ-loop
 loop-holds c = (front-none (omega (arith, length-low (length (c .args .part .now)) (c .args .value))), rw (pow-zero, div-one))

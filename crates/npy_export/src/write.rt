@@ -1,14 +1,24 @@
 //! The body of a file, written row by row: each slot stands in it twice.
-use crate::entry::put_entry;
 use npy_header::header::HEADER_LENGTH;
+use numbers::words::write_le;
 ghost use mathlib.Core.Path.{_≡_};
 ghost use Prim.Native.Nat.{_+_, _-_, _*_, _≤_, _<_};
 ghost use lib.ListN.{length};
 ghost use lib.Seq.{sets};
+ghost use Rattle.numbers.specs.Words.{lowBytesOf};
 ghost use Rattle.layout.specs.Triangle.{slotsOf, slotOf};
 ghost use Rattle.npy_header.specs.Header.{headerLength};
-ghost use Rattle.npy.specs.File.{fileLength, rowBytes, bodyOf};
-ghost use Rattle.npy.specs.Parts.{leftBytes, rightBytes};
+ghost use Rattle.npy_export.specs.File.{fileLength, rowBytes, bodyOf};
+ghost use Rattle.npy_export.specs.Parts.{leftBytes, rightBytes};
+
+// An entry from a place on: a binary64 by its bits, low byte first.
+fn put_entry(bits: u64, at: usize, out: &mut [u8])
+    requires { ⌜ at + 8 ≤ length (now out) ⌝ }
+    ensures { λ _. ⌜ now (out .exit) ≡ sets (now (out .entry)) at (lowBytesOf 8 bits) ⌝ }
+{
+    let end = at + 8;
+    write_le(bits, &mut out[at..end]);
+}
 
 // Row i before the diagonal: column i of the rows above, whose slots lie one closer in each row.
 fn put_left(i: usize, rows: usize, correlations: &[u64], at: usize, out: &mut [u8])

@@ -6,9 +6,9 @@ use borrow.Author.Tests.{lt-ltb, le-ltb, eq-eqb, ne-eqb}
 use Rattle.answers.specs.Table.{roomRule}
 use Rattle.layout.specs.Size.{maxRows}
 use Rattle.layout.specs.Triangle.{slotsOf}
-use Rattle.npy.specs.Rules.{exportRules}
-use Rattle.npy.proofs.export.check_export.Statement.{statement}
-use Rattle.npy.proofs.export.check_export.Tie as tie
+use Rattle.npy_export.specs.Rules.{exportRules}
+use Rattle.npy_export.proofs.export.check_export.Statement.{statement}
+use Rattle.npy_export.proofs.export.check_export.Tie as tie
 
 returns : tie.Need-returns
 returns c = rw (lt-ltb maxRows (c .before .args .n) (c .if1 .taken))

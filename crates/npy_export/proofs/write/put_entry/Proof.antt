@@ -1,11 +1,11 @@
--- `entry::put_entry` meets its contract: what comes back of the lent part is a run of stores.
+-- `write::put_entry` meets its contract: what comes back of the lent part is a run of stores.
 -- Assumes nothing.
 use borrow.Author.Needs.{needs}
 use Rattle.answers.proofs.Stored.{sets-part}
 use Rattle.numbers.specs.Words.{lowBytesOf}
 use Rattle.numbers.proofs.Low.{length-low}
-use Rattle.npy.proofs.entry.put_entry.Statement.{statement}
-use Rattle.npy.proofs.entry.put_entry.Tie as tie
+use Rattle.npy_export.proofs.write.put_entry.Statement.{statement}
+use Rattle.npy_export.proofs.write.put_entry.Tie as tie
 
 returns : tie.Need-returns
 returns c =

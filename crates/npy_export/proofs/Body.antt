@@ -3,20 +3,25 @@
 use mathlib.Core.Path.{_≡_, refl, ap, ap₂, _∙_}
 use mathlib.Core.List.{List, _++_}
 use Prim.Native.Nat.{ℕ, min, max, _+_, _-_, _*_, _≤_, _<_}
-use native.Mathlib.Nat.{mul-comm, mul-assoc}
+use native.Mathlib.Nat.{mul-comm, mul-assoc, mul-le-mul}
 use native.Mathlib.Omega.{arith}
 use borrow.Author.Tests.{eq-eqb, ne-eqb}
 use lib.ListN.{length, getD, length-append}
 use Rattle.answers.proofs.Joined.{length-joined, joined-around, joined-same}
 use Rattle.numbers.specs.Words.{lowBytesOf}
 use Rattle.numbers.proofs.Low.{length-low}
+use Rattle.layout.specs.Size.{maxRows}
 use Rattle.layout.specs.Triangle.{slotOf}
 use Rattle.npy_header.specs.Header.{maxSize}
-use Rattle.npy.specs.File.{bodyLength, fileLength, entryOf, entryBytes, rowBytes, bodyOf, fileOf}
-use Rattle.npy.specs.Parts.{slotBytes, leftBytes, rightBytes}
+use Rattle.npy_export.specs.File.{bodyLength, fileLength, entryOf, entryBytes, rowBytes, bodyOf, fileOf}
+use Rattle.npy_export.specs.Parts.{slotBytes, leftBytes, rightBytes}
 use Rattle.npy_header.proofs.Headers.{length-header}
 
 -- ---- lengths
+-- within the limit no length and no place comes near the largest number of 64 bits
+pub few-entries : (n i : ℕ) → n ≤ maxRows → i ≤ n → i * n ≤ maxRows * maxRows
+few-entries n i h k = mul-le-mul {n₁ = i} {m₁ = n} {n₂ = maxRows} {m₂ = maxRows} (omega arith) h
+
 module _ (n : ℕ) (cs : List ℕ) (i : ℕ) where
   pub length-left : length (leftBytes n cs i) ≡ 8 * i
   length-left = length-joined (λ j. slotBytes cs (slotOf n j i)) 8 (λ j. length-low 8 (getD cs (slotOf n j i) 0)) i ∙ mul-comm i 8

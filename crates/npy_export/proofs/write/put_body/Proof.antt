@@ -9,10 +9,10 @@ use Rattle.answers.proofs.Runs.{Run, run-none, run-room, run-more, run-done}
 use Rattle.layout.specs.Triangle.{slotOf}
 use Rattle.layout.proofs.RowByRow.{row-first, row-next, row-within}
 use Rattle.npy_header.specs.Header.{headerLength}
-use Rattle.npy.specs.File.{rowBytes, bodyOf}
-use Rattle.npy.proofs.Body.{length-row, length-body}
-use Rattle.npy.proofs.write.put_body.Statement.{statement}
-use Rattle.npy.proofs.write.put_body.Tie as tie
+use Rattle.npy_export.specs.File.{rowBytes, bodyOf}
+use Rattle.npy_export.proofs.Body.{length-row, length-body}
+use Rattle.npy_export.proofs.write.put_body.Statement.{statement}
+use Rattle.npy_export.proofs.write.put_body.Tie as tie
 
 abbrev Inv-loop : tie.InvT-loop
 Inv-loop rows deviations correlations out₀ first₀ at₀ i₀ out first at i =

@@ -1,5 +1,4 @@
 //! Export: a matrix as a .npy file.
-use crate::entry::body_length;
 use crate::write::put_body;
 use answers::Check;
 use answers::Refusal;
@@ -14,15 +13,15 @@ ghost use lib.ListN.{length};
 ghost use Rattle.answers.specs.Listed.{written, checked};
 ghost use Rattle.answers.specs.Lent.{leaves};
 ghost use Rattle.layout.specs.Size.{maxRows};
-ghost use Rattle.npy.specs.File.{fileLength, fileOf};
-ghost use Rattle.npy.specs.Rules.{exportRules, exportAnswer};
+ghost use Rattle.npy_export.specs.File.{fileLength, fileOf};
+ghost use Rattle.npy_export.specs.Rules.{exportRules, exportAnswer};
 
 // How long the file of so many rows is.
 fn file_length(rows: usize) -> usize
     requires { ⌜ rows ≤ maxRows ⌝ }
     ensures { λ r. ⌜ r ≡ fileLength rows ⌝ }
 {
-    HEADER_LENGTH + body_length(rows)
+    HEADER_LENGTH + 8 * (rows * rows)
 }
 
 // N, the two counts, the room.

@@ -8,10 +8,10 @@ use lib.ListN.{length}
 use Rattle.answers.proofs.Runs.{Run, run-none, run-room, run-more, run-done}
 use Rattle.layout.specs.Triangle.{slotOf}
 use Rattle.layout.proofs.RowByRow.{row-by-row, row-along}
-use Rattle.npy.specs.Parts.{slotBytes}
-use Rattle.npy.proofs.Body.{length-right}
-use Rattle.npy.proofs.write.put_right.Statement.{statement}
-use Rattle.npy.proofs.write.put_right.Tie as tie
+use Rattle.npy_export.specs.Parts.{slotBytes}
+use Rattle.npy_export.proofs.Body.{length-right}
+use Rattle.npy_export.proofs.write.put_right.Statement.{statement}
+use Rattle.npy_export.proofs.write.put_right.Tie as tie
 
 abbrev Inv-loop : tie.InvT-loop
 Inv-loop i rows first correlations at out₀ count next₀ k₀ out next k =

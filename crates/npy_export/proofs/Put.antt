@@ -11,10 +11,10 @@ use Rattle.answers.proofs.Stored.{sets-more, sets-over}
 use Rattle.numbers.specs.Words.{lowBytesOf}
 use Rattle.layout.specs.Size.{maxRows}
 use Rattle.npy_header.specs.Header.{headerLength, header}
-use Rattle.npy.specs.File.{fileLength, rowBytes, bodyOf, fileOf}
-use Rattle.npy.specs.Parts.{leftBytes, rightBytes}
+use Rattle.npy_export.specs.File.{fileLength, rowBytes, bodyOf, fileOf}
+use Rattle.npy_export.specs.Parts.{leftBytes, rightBytes}
 use Rattle.npy_header.proofs.Headers.{length-header}
-use Rattle.npy.proofs.Body.{length-left, length-file, row-parts}
+use Rattle.npy_export.proofs.Body.{length-left, length-file, row-parts}
 
 three : (l : List ℕ) (at : ℕ) (x y z : List ℕ)
     → sets (sets (sets l at x) (at + length x) y) (at + length x + length y) z ≡ sets l at (x ++ (y ++ z))

@@ -13,12 +13,12 @@ use Rattle.answers.proofs.Lent.{refused-leaves}
 use Rattle.answers.proofs.Next.{stops}
 use Rattle.npy_header.specs.Header.{header}
 use Rattle.npy_header.proofs.Headers.{header-over}
-use Rattle.npy.specs.File.{fileLength, fileOf}
-use Rattle.npy.specs.Rules.{exportRules}
-use Rattle.npy.proofs.Put.{file-stored}
-use Rattle.npy.proofs.Passed.{Exports, exports}
-use Rattle.npy.proofs.export.export_npy.Statement.{statement}
-use Rattle.npy.proofs.export.export_npy.Tie as tie
+use Rattle.npy_export.specs.File.{fileLength, fileOf}
+use Rattle.npy_export.specs.Rules.{exportRules}
+use Rattle.npy_export.proofs.Put.{file-stored}
+use Rattle.npy_export.proofs.Passed.{Exports, exports}
+use Rattle.npy_export.proofs.export.export_npy.Statement.{statement}
+use Rattle.npy_export.proofs.export.export_npy.Tie as tie
 
 -- what is sent
 abbrev ds : tie.Start → List ℕ

@@ -1,9 +1,9 @@
 -- `write::put_row` meets its contract: its three parts, one behind the other.
 -- Assumes nothing.
 use borrow.Author.Needs.{needs}
-use Rattle.npy.proofs.Put.{row-stored}
-use Rattle.npy.proofs.write.put_row.Statement.{statement}
-use Rattle.npy.proofs.write.put_row.Tie as tie
+use Rattle.npy_export.proofs.Put.{row-stored}
+use Rattle.npy_export.proofs.write.put_row.Statement.{statement}
+use Rattle.npy_export.proofs.write.put_row.Tie as tie
 
 returns : tie.Need-returns
 returns c =

@@ -8,10 +8,10 @@ use lib.ListN.{length}
 use Rattle.answers.proofs.Runs.{Run, run-none, run-room, run-more, run-done}
 use Rattle.layout.specs.Triangle.{slotOf}
 use Rattle.layout.proofs.RowByRow.{row-by-row, row-first, row-next, row-within, row-along}
-use Rattle.npy.specs.Parts.{slotBytes}
-use Rattle.npy.proofs.Body.{length-left}
-use Rattle.npy.proofs.write.put_left.Statement.{statement}
-use Rattle.npy.proofs.write.put_left.Tie as tie
+use Rattle.npy_export.specs.Parts.{slotBytes}
+use Rattle.npy_export.proofs.Body.{length-left}
+use Rattle.npy_export.proofs.write.put_left.Statement.{statement}
+use Rattle.npy_export.proofs.write.put_left.Tie as tie
 
 abbrev Inv-loop : tie.InvT-loop
 Inv-loop i rows correlations at out₀ behind₀ step₀ next₀ j₀ out behind step next j =

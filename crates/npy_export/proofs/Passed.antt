@@ -7,8 +7,8 @@ use Rattle.answers.specs.Table.{next, roomRule}
 use Rattle.answers.proofs.Next.{Says, rules, next-zero}
 use Rattle.layout.specs.Size.{maxRows, limitRule}
 use Rattle.layout.specs.Triangle.{slotsOf}
-use Rattle.npy.specs.File.{fileLength}
-use Rattle.npy.specs.Rules.{countRule, exportRules}
+use Rattle.npy_export.specs.File.{fileLength}
+use Rattle.npy_export.specs.Rules.{countRule, exportRules}
 
 -- one rule
 pub limit-tells : (n : ℕ) → Says (λ _. n ≤ maxRows) (limitRule n)

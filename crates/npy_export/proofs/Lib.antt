@@ -1,0 +1,4 @@
+pub mod Body
+pub mod Put
+pub mod Passed
+pub mod OneAnswer

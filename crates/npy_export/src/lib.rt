@@ -1,0 +1,3 @@
+//! A matrix as a NumPy .npy file.
+pub mod export;
+mod write;
