@@ -51,7 +51,8 @@ module _ (n : ℕ) (ds cs : List ℕ) where
 
 -- ---- from a file that import takes: exported again it is the same file
 pub record ImportExport (file : List ℕ) : Type 0 where
-  pub exports : exportAnswer (sizeIn file) (length (deviationsIn file (sizeIn file))) (length (correlationsIn file (sizeIn file)))
-      (length file)
+  pub exports :
+      exportAnswer (sizeIn file) (length (deviationsIn file (sizeIn file)))
+      (length (correlationsIn file (sizeIn file))) (length file)
       ≡ answer 0 (wholes (length file ∷ []))
   pub same : fileOf (sizeIn file) (deviationsIn file (sizeIn file)) (correlationsIn file (sizeIn file)) ≡ file

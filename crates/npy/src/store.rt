@@ -44,7 +44,8 @@ fn store_row(file: &[u8], rows: usize, i: usize, first: usize, correlations: &mu
 
 // Row by row; the first slot of each row is carried along.
 pub(crate) fn store_correlations(file: &[u8], rows: usize, correlations: &mut [u64])
-    requires { ⌜ (rows ≤ maxRows) × (fileLength rows ≤ length (now file)) × (slotsOf rows ≤ length (now correlations)) ⌝ }
+    requires { ⌜ (rows ≤ maxRows) × (fileLength rows ≤ length (now file))
+        × (slotsOf rows ≤ length (now correlations)) ⌝ }
     ensures { λ _. ⌜ now (correlations .exit)
         ≡ over (correlationsIn (now (file .entry)) rows) (now (correlations .entry)) ⌝ }
 {

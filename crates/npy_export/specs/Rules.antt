@@ -11,7 +11,8 @@ use Rattle.npy_export.specs.File.{fileLength}
 abbrev pub countRule : ℕ → ℕ → Answer
 countRule expected got = pick (eqb expected got) passes (answer 2 (wholes (expected ∷ got ∷ [])))
 
--- of so many deviations and correlations, given the room: N above the limit: 3; then the deviation count, which is to be N; then the correlation count, which is to be M; then 5
+-- of so many deviations and correlations, given the room
+-- N above the limit: 3; then the deviation count, which is to be N, and the correlation count, which is to be M; then 5
 abbrev pub exportRules : ℕ → ℕ → ℕ → ℕ → Answer
 exportRules n ds cs room =
     next (limitRule n) (next (countRule n ds) (next (countRule (slotsOf n) cs) (roomRule (fileLength n) room)))
