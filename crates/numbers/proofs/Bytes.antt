@@ -17,7 +17,7 @@ within : {n k : ℕ} → n < 256 ^ k → k ≤ 8 → n % 2 ^ 64 ≡ n
 within {n} {k} h e = mod-eq_of_lt (le_trans h (pow-le-pow_right {n = 256} (omega arith) {i = k} {j = 8} e))
 
 spelt-within : (l : List ℕ) → length l ≤ 8 → spelt 256 0 l % 2 ^ 64 ≡ spelt 256 0 l
-spelt-within l h = within (rw one-mul at (spelt-lt 256 (omega arith) {a = 0} {m = 1} (omega arith) l)) h
+spelt-within l h = within (rw one-mul at (spelt-lt 256 (omega arith) 0 1 (omega arith) l)) h
 
 pub length-bytes : (k n : ℕ) → length (bytes_of k n) ≡ k
 unfolding bytes_of

@@ -43,9 +43,9 @@ module _ (base : ℕ) where
   digits-spelt l h = rw zero-add at (digits_onto 0 0 l h)
 
   module _ (positive : 0 < base) where
-    pub spelt-lt : {a m : ℕ} → a < m → (l : List ℕ) → spelt base a l < m * base ^ length l
-    spelt-lt {a} {m} h [] = rw (pow-zero, mul-one) h
-    spelt-lt {a} {m} h (d ∷ ds) = rw (pow-succ', ← mul_assoc) (spelt-lt (digits_lt h (mod-lt d positive)) ds)
+    pub spelt-lt : (a m : ℕ) → a < m → (l : List ℕ) → spelt base a l < m * base ^ length l
+    spelt-lt a m h [] = rw (pow-zero, mul-one) h
+    spelt-lt a m h (d ∷ ds) = rw (pow-succ', ← mul_assoc) (spelt-lt (a * base + d % base) (m * base) (digits_lt h (mod-lt d positive)) ds)
 
     -- reading what was written
     pub spelt-digits : (a mark k n : ℕ) → spelt base a (digits base mark k n) ≡ a * base ^ k + n % base ^ k
@@ -73,7 +73,7 @@ module _ (base : ℕ) where
 
     pub spelt-low : (a : ℕ) (l : List ℕ) → spelt base a l % base ^ length l ≡ spelt base 0 l
     spelt-low a l =
-        let h = rw one-mul at (spelt-lt {a = 0} {m = 1} (omega arith) l) in
+        let h = rw one-mul at (spelt-lt 0 1 (omega arith) l) in
         rw (spelt-onto a l, mul-add-mod_self_right) (mod-eq_of_lt h)
 
     -- more digits never spell less

@@ -1,0 +1,20 @@
+-- `ber_oid::write_ber_oid` meets its contract. The invariant: with the digits that are left, the bytes are what they
+-- were to be.
+use mathlib.Core.Path.{refl, ◌∙◌}
+use Prim.Native.Nat.{◌≤◌}
+use native.Mathlib.Omega.{arith}
+use borrow.Author.Rules.{rules}
+use borrow.Author.Tests.{lt-ltb, le-ltb}
+use lib.ListN.{length, length-set}
+use Rattle.numbers.specs.BerOid.{oid_length}
+use Rattle.numbers.proofs.Digits.{Back, back_none, back_more, back_done}
+use Rattle.numbers.proofs.BerOid.{enough, stored}
+use Rattle.numbers.proofs.ber_oid.write_ber_oid.Goals as goal
+
+pub returns : goal.returns
+returns c =
+    let a = c.args in
+    let e = c.ber_oid_len-needed.ensures in (
+      rw (e, le-ltb (length a.out.now) (oid_length a.value) (omega arith)),
+      rw e at (back_done c.loop-i.invariant (omega arith)) ∙ stored a.value (omega arith) a.out.now (omega arith),
+    )

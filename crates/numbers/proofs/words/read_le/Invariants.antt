@@ -1,0 +1,15 @@
+use mathlib.Core.Path.{◌≡◌, ap}
+use Prim.Native.Nat.{◌+◌, ◌-◌, ◌%◌, ◌^◌, ◌≤◌}
+use native.Mathlib.Omega.{arith}
+use borrow.Author.Rules.{rules}
+use lib.ListN.{length, drop}
+use lib.Seq.{drop-length}
+use Rattle.numbers.specs.Words.{low_spelt, low_word_of}
+use Rattle.numbers.proofs.Low.{low-more}
+use Rattle.numbers.proofs.words.read_le.Given as goal
+
+abbrev pub invariant-loop-at : goal.invariant-loop-at
+invariant-loop-at l = (l.at ≤ length l.bytes) × (l.value ≡ low_spelt (drop l.at l.bytes) % 2 ^ 64)
+
+abbrev pub decreases-loop-at : goal.decreases-loop-at
+decreases-loop-at l = l.at

@@ -1,0 +1,25 @@
+-- `words::write_le` meets its contract. The invariant: the first bytes are stored, and what is left is above them.
+use mathlib.Core.Path.{◌≡◌, sym, ap, ◌∙◌}
+use mathlib.Core.List.{append-nil}
+use Prim.Native.Nat.{ℕ, ◌-◌, ◌/◌, ◌%◌, ◌^◌, ◌<◌}
+use native.Mathlib.Nat.{pow-zero, div-one}
+use native.Mathlib.Omega.{arith}
+use lib.ListN.{length, length-set}
+use lib.Seq.{drop-length}
+use Rattle.answers.proofs.Lent.{Front, front-none, front-more, front-done}
+use Rattle.numbers.specs.Words.{low_bytes_of}
+use Rattle.numbers.proofs.Low.{length-low, low-at, low-left}
+use Rattle.numbers.proofs.words.write_le.Goals as goal
+
+pub loop-i-init : goal.loop-i-init
+loop-i-init c = (front-none (omega (arith, length-low (length c.args.part.now) c.args.value)), rw (pow-zero, div-one))
+
+pub loop-i-preserved : goal.loop-i-preserved
+loop-i-preserved c =
+    let l = c.loop-i in
+    let k = length c.args.part.now in
+    let v = c.args.value in
+    let h : l.i < k = omega (arith, l.invariant.0.long) in (
+      front-more l.invariant.0 (rw (length-low k v) h) (ap (λ (x : ℕ). x % 256) l.invariant.1 ∙ sym (low-at k v l.i h)),
+      ap (λ (x : ℕ). x / 256) l.invariant.1 ∙ sym (low-left v l.i),
+    )
