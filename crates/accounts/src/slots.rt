@@ -12,7 +12,7 @@ use parts::slot::put_slot;
 use text::part::within;
 
 // How far the text has come, and where the next code starts.
-#[derive(Drop)]
+#[derive(Clone, Copy)]
 pub(crate) struct Reached {
     pub(crate) next: usize,
     pub(crate) code: usize,

@@ -2,7 +2,7 @@
 pub mod row;
 
 // Rows 1 to 12, in the table's order. A binary64 is carried as its bits, so that a refused NaN comes back bit for bit.
-#[derive(Drop)]
+#[derive(Clone, Copy)]
 pub enum Refusal {
     // 1, in bytes
     TruncatedField { needed: usize, got: usize },
@@ -33,14 +33,14 @@ pub enum Refusal {
 }
 
 // What a rule, or a run of rules, answers.
-#[derive(Drop)]
+#[derive(Clone, Copy)]
 pub enum Check {
     Passes,
     Refused(Refusal),
 }
 
 // What a writer answers: how many bytes it wrote, or why it wrote none.
-#[derive(Drop)]
+#[derive(Clone, Copy)]
 pub enum Written {
     Done(usize),
     Refused(Refusal),

@@ -5,7 +5,7 @@ ghost use Rattle.answers.specs.Row.{row, row_of};
 use crate::Refusal;
 
 // The first `count` values count, the others are 0. Where `floats`, they are the bits of binary64 numbers.
-#[derive(Drop)]
+#[derive(Clone, Copy)]
 pub struct Row {
     pub number: u64,
     pub count: usize,

@@ -40,7 +40,7 @@ fn fill_all(
 }
 
 // Where the next code starts, and the bits that were met.
-#[derive(Drop)]
+#[derive(Clone, Copy)]
 struct Reached {
     next: usize,
     met: u64,

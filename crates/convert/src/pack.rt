@@ -17,7 +17,7 @@ use reader::read::ReadAnswer;
 use writer::write::{encode_sdcc_flp, encode_sdcc_flp_mode2};
 
 // The Clen that is asked for, or that of the writer which takes none.
-#[derive(Drop)]
+#[derive(Clone, Copy)]
 pub enum Clen {
     Default,
     Named(usize),

@@ -9,7 +9,7 @@ use lines::refusal::put_refusal;
 use text::put::put_text;
 
 // So many bytes at the front of lent memory.
-#[derive(Drop)]
+#[derive(Clone, Copy)]
 pub enum Streamed {
     Output(usize),
     Errors(usize),

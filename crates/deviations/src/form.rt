@@ -10,13 +10,13 @@ use ranges::mapping::{ImapbRange, range_mapping};
 use ranges::range::{ImapbParams, check_range};
 
 // The range of deviations in mapped form, which no pack says: unknown, or lent with it.
-#[derive(Drop)]
+#[derive(Clone, Copy)]
 pub enum DeviationRange {
     Unknown,
     Known { min: f64, max: f64 },
 }
 
-#[derive(Drop)]
+#[derive(Clone, Copy)]
 pub enum DeviationForm {
     // as the pack says
     Plain,

@@ -14,7 +14,7 @@ use layout::size::check_matrix_size_fits;
 use layout::triangle::corr_slots;
 
 // What elements 1 and 2 say, and where element 3 starts.
-#[derive(Drop)]
+#[derive(Clone, Copy)]
 pub struct Head {
     pub n: u32,
     pub control: ParseControl,
@@ -22,7 +22,7 @@ pub struct Head {
 }
 
 // And where elements 4 and 5 start.
-#[derive(Drop)]
+#[derive(Clone, Copy)]
 pub struct Places {
     pub head: Head,
     pub deviations: usize,
@@ -30,7 +30,7 @@ pub struct Places {
 }
 
 // The places of a pack that rules have passed, or the first that did not, with its refusal.
-#[derive(Drop)]
+#[derive(Clone, Copy)]
 pub enum Opened {
     Pack(Places),
     Refused { rule: Rule, refusal: Refusal },

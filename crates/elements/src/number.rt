@@ -10,7 +10,7 @@ use layout::control::ParseControl;
 use numbers::conversions::binary32_to_binary64;
 use numbers::words::read_be;
 
-#[derive(Drop)]
+#[derive(Clone, Copy)]
 pub enum Number {
     Bits(u64),
     Refused(Refusal),

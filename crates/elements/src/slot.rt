@@ -12,13 +12,13 @@ use imapb::decode::{DecodedImapb, ImapbRead, decode_imapb};
 use layout::control::ParseControl;
 
 // A slot as it is read: the bits of its number, and its state, 0 for absent.
-#[derive(Drop)]
+#[derive(Clone, Copy)]
 pub struct Slot {
     pub bits: u64,
     pub state: u8,
 }
 
-#[derive(Drop)]
+#[derive(Clone, Copy)]
 pub enum SlotRead {
     Done(Slot),
     Refused(Refusal),

@@ -10,7 +10,7 @@ use layout::rule::Rule;
 use rules::judge::judge;
 
 // Where the elements of a pack that the reader accepts stand; or the rule that refuses it, its place and the refusal.
-#[derive(Drop)]
+#[derive(Clone, Copy)]
 pub enum Explained {
     Accepted {
         head: Head,

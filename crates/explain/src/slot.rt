@@ -8,7 +8,7 @@ use elements::present::is_present;
 use elements::slot::{SlotRead, correlation_at};
 
 // The bytes of a slot's code and what it was, or none.
-#[derive(Drop)]
+#[derive(Clone, Copy)]
 pub enum SlotCode {
     Absent,
     At { span: Span, state: u8 },

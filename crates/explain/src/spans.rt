@@ -11,14 +11,14 @@ use elements::head::Places;
 use numbers::ber_oid::{BerOid, read_ber_oid};
 
 // From a byte on, up to another.
-#[derive(Drop)]
+#[derive(Clone, Copy)]
 pub struct Span {
     pub start: usize,
     pub end: usize,
 }
 
 // The five elements, one behind the other.
-#[derive(Drop)]
+#[derive(Clone, Copy)]
 pub struct Elements {
     pub n: Span,
     pub control: Span,

@@ -12,7 +12,7 @@ use answers::{Check, Refusal};
 
 // Under the Rust's names: a value, a special, a pattern that the tables reserve with its y, or a number above the
 // range.
-#[derive(Drop)]
+#[derive(Clone, Copy)]
 pub enum DecodedImapb {
     Value(f64),
     Special(ImapbSpecial),
@@ -20,7 +20,7 @@ pub enum DecodedImapb {
     OutOfRange { decoded: f64 },
 }
 
-#[derive(Drop)]
+#[derive(Clone, Copy)]
 pub enum ImapbRead {
     Done(DecodedImapb),
     Refused(Refusal),

@@ -17,7 +17,7 @@ const MINUS_ONE: u64 = 0xbff0_0000_0000_0000;
 const ONE: u64 = 0x3ff0_0000_0000_0000;
 
 // A code, or nothing for a length or a number that has none.
-#[derive(Drop)]
+#[derive(Clone, Copy)]
 pub enum ImapbCode {
     Of(u64),
     Nothing,

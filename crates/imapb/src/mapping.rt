@@ -3,7 +3,7 @@ ghost use Rattle.std.specs.Prelude.{◌≡◌};
 ghost use Rattle.imapb.specs.Tables.{imapb_mapping};
 
 // The scale of the codes of a length, and the largest of them that is a value.
-#[derive(Drop)]
+#[derive(Clone, Copy)]
 pub struct Mapping {
     pub length: usize,
     pub scale: f64,
@@ -11,7 +11,7 @@ pub struct Mapping {
 }
 
 // A mapping, or nothing for a length that has none.
-#[derive(Drop)]
+#[derive(Clone, Copy)]
 pub enum ImapbMapping {
     Of(Mapping),
     Nothing,

@@ -9,7 +9,7 @@ ghost use Rattle.imapb.specs.Tables.{special_written};
 use answers::{Refusal, Written};
 
 // Under the Rust's names. NaN and user codes carry the 8L-5 bits below the family.
-#[derive(Drop)]
+#[derive(Clone, Copy)]
 pub enum ImapbSpecial {
     PositiveInfinity,
     NegativeInfinity,

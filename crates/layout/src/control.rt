@@ -3,7 +3,7 @@ ghost use Rattle.std.specs.Prelude.{◌≡◌};
 ghost use Rattle.layout.specs.Control.{mode1, mode2};
 
 // CS: a Bit Vector says which slots are present. Cf, Sf: mapped (ST 1201) and not IEEE. Clen, Slen: bytes to a value.
-#[derive(Drop)]
+#[derive(Clone, Copy)]
 pub struct ParseControl {
     pub cs: bool,
     pub cf: bool,

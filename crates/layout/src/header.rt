@@ -8,7 +8,7 @@ use crate::control::{ParseControl, parse_mode1, parse_mode2};
 use numbers::ber_oid::{BerOid, read_ber_oid};
 
 // What the first two elements say, and where the third starts; or which of rules a) and b) refuses them.
-#[derive(Drop)]
+#[derive(Clone, Copy)]
 pub enum Header {
     Open {
         n: u32,

@@ -6,7 +6,7 @@ ghost use Rattle.layout.specs.Ruled.{passed, named, ruled};
 use answers::{Check, Refusal};
 
 // a) to k), in the order in which a pack is held to them.
-#[derive(Drop)]
+#[derive(Clone, Copy)]
 pub enum Rule {
     A,
     B,
@@ -22,7 +22,7 @@ pub enum Rule {
 }
 
 // What rules answer, one behind the other: all pass, or the first that does not refuses.
-#[derive(Drop)]
+#[derive(Clone, Copy)]
 pub enum Ruling {
     Passes,
     Refused { rule: Rule, refusal: Refusal },

@@ -14,7 +14,7 @@ use answers::{Check, Refusal};
 use numbers::ber_oid::{BerOid, read_ber_oid};
 
 // The size that a pack says, where the pack's own bytes could hold it.
-#[derive(Drop)]
+#[derive(Clone, Copy)]
 pub enum Peek {
     Size(u32),
     Nothing,

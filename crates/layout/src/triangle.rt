@@ -3,7 +3,7 @@ ghost use Rattle.std.specs.Prelude.{◌≡◌};
 ghost use Rattle.layout.specs.Triangle.{slots_of, triangle_slot};
 
 // Where a pair's correlation stands, or nothing for what is no pair i < j of the matrix.
-#[derive(Drop)]
+#[derive(Clone, Copy)]
 pub enum TriangleSlot {
     At(u64),
     Nothing,

@@ -9,7 +9,7 @@ use layout::pack::SdccFlp;
 use layout::triangle::{TriangleSlot, triangle_slot};
 
 // What a cell holds, by its bits.
-#[derive(Drop)]
+#[derive(Clone, Copy)]
 pub enum Cell {
     Number(u64),
     Refused(Refusal),

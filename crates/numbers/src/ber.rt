@@ -5,7 +5,7 @@ ghost use Rattle.numbers.specs.Ber.{ber_read, ber_read_strict};
 use crate::words::read_be;
 
 // A length and how many bytes it took, or none.
-#[derive(Drop)]
+#[derive(Clone, Copy)]
 pub enum BerLength {
     Read { value: u64, taken: usize },
     Unreadable,

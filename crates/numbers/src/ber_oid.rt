@@ -7,7 +7,7 @@ ghost use Rattle.numbers.specs.BerOid.{oid_length, oid_bytes, oid_read, oid_read
 use answers::{Refusal, Written};
 
 // A number and how many bytes it took, or none.
-#[derive(Drop)]
+#[derive(Clone, Copy)]
 pub enum BerOid {
     Read { value: u32, taken: usize },
     Unreadable,

@@ -5,7 +5,7 @@ ghost use Rattle.std.specs.Float.Ieee.Nearest.{closest};
 ghost use Rattle.numbers.specs.Conversions.{converted, nearest_bits, whole_part};
 
 // The whole part of a number, or nothing where the number is below 0, from 2^64 on or not finite.
-#[derive(Drop)]
+#[derive(Clone, Copy)]
 pub enum WholePart {
     Whole(u64),
     Nothing,

@@ -2,7 +2,7 @@
 use text::numeral::{Numeral, decimal};
 
 // Each does the first six in turn. Idle does nothing, so that what the repetitions themselves cost can be taken off.
-#[derive(Drop)]
+#[derive(Clone, Copy)]
 pub(crate) enum Op {
     Read,
     Write,
@@ -17,14 +17,14 @@ pub(crate) enum Op {
 }
 
 // The pack: with a value in every slot, in one of four, or with a special code in every slot.
-#[derive(Drop)]
+#[derive(Clone, Copy)]
 pub(crate) enum Kind {
     Full,
     Sparse,
     Specials,
 }
 
-#[derive(Drop)]
+#[derive(Clone, Copy)]
 pub(crate) struct Job {
     pub(crate) op: Op,
     pub(crate) rows: usize,

@@ -17,7 +17,7 @@ pub const MAX_BYTES: usize = 600_000;
 pub const MAX_TAGS: usize = 300_000;
 
 // How many packs are to follow, and where the line ends.
-#[derive(Drop)]
+#[derive(Clone, Copy)]
 pub struct Begun {
     pub packs: usize,
     pub behind: usize,

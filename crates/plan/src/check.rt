@@ -12,7 +12,7 @@ use layout::pack::SdccFlp;
 use layout::triangle::corr_slots;
 
 // How many correlations are 0, or the refusal of the first that lies outside.
-#[derive(Drop)]
+#[derive(Clone, Copy)]
 pub(crate) enum Counted {
     Zeros(usize),
     Refused(Refusal),
@@ -71,7 +71,7 @@ fn check_each(correlations: &[u64]) -> Counted
 }
 
 // The bits that are set in one number or another, itself or raised, and how many of them are 0.
-#[derive(Drop)]
+#[derive(Clone, Copy)]
 pub(crate) struct Tally {
     bits: u64,
     zeros: usize,

@@ -8,7 +8,7 @@ use answers::{Check, Refusal};
 use layout::pack::bounded_slots;
 
 // A pack's plan, or the refusal of the first rule that refuses.
-#[derive(Drop)]
+#[derive(Clone, Copy)]
 pub enum Planned {
     Done(Plan),
     Refused(Refusal),

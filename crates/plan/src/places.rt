@@ -6,7 +6,7 @@ ghost use Rattle.plan.specs.Places.{vector_length, sent_count, plan_of};
 use numbers::ber_oid::ber_oid_len;
 
 // Elements 1 and 2 start at 0; `end` is the pack's length.
-#[derive(Drop)]
+#[derive(Clone, Copy)]
 pub struct Plan {
     pub clen: usize,
     pub sparse: bool,

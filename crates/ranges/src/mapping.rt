@@ -10,7 +10,7 @@ use imapb::decode::check_length;
 use std::num::truncating_f64_to_u64;
 
 // The size of a step, the code's offset, the number that steps are counted from, and the largest code that is a value.
-#[derive(Drop)]
+#[derive(Clone, Copy)]
 pub struct RangeMapping {
     pub length: usize,
     pub min: f64,
@@ -20,7 +20,7 @@ pub struct RangeMapping {
 }
 
 // A mapping, or why there is none.
-#[derive(Drop)]
+#[derive(Clone, Copy)]
 pub enum ImapbRange {
     Of(RangeMapping),
     Refused(Refusal),

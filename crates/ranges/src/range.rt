@@ -7,7 +7,7 @@ ghost use Rattle.ranges.specs.Tables.{range_rule};
 use answers::{Check, Refusal};
 
 // A range and the length of its codes, under the Rust's name.
-#[derive(Drop)]
+#[derive(Clone, Copy)]
 pub struct ImapbParams {
     pub min: f64,
     pub max: f64,

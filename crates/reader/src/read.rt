@@ -13,7 +13,7 @@ use elements::head::pack_of;
 use layout::pack::SdccFlp;
 use rules::decide::Decided;
 
-#[derive(Drop)]
+#[derive(Clone, Copy)]
 pub enum ReadAnswer {
     Done(SdccFlp),
     Refused(Refusal),

@@ -8,7 +8,7 @@ use text::part::within;
 use text::put::{put_byte, put_decimal};
 
 // What the letters of a sentence stand for.
-#[derive(Drop)]
+#[derive(Clone, Copy)]
 pub(crate) struct Facts {
     // N: the rows of the matrix
     pub(crate) rows: u64,

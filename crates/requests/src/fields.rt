@@ -38,7 +38,7 @@ fn number(letter: u8, line: &[u8], at: usize) -> Numeral
 }
 
 // Where a list goes in the words, and how its entries are spelled.
-#[derive(Drop)]
+#[derive(Clone, Copy)]
 struct Part {
     start: usize,
     end: usize,

@@ -8,7 +8,7 @@ use replies::forms::{BAD_REQUEST, WIDTH, letter};
 use text::numeral::Numeral;
 
 // A request: its form, and what its fields say.
-#[derive(Drop)]
+#[derive(Clone, Copy)]
 pub struct Request {
     pub form: usize,
     // N: a matrix size, the length of a code or Clen

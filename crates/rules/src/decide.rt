@@ -23,7 +23,7 @@ use layout::control::ParseControl;
 use layout::rule::{Rule, Ruling, by};
 
 // What the rules decide: where a pack's elements start and how its deviations are read, or the first that refuses it.
-#[derive(Drop)]
+#[derive(Clone, Copy)]
 pub enum Decided {
     Pack { places: Places, form: DeviationForm },
     Refused(Refusal),

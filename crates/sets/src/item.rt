@@ -8,7 +8,7 @@ use numbers::ber_oid::{BerOid, read_ber_oid_strict};
 
 // Its tag, and where its value starts and ends; or none, where the strict reading refuses the tag or the length, or the
 // value runs past the set's end.
-#[derive(Drop)]
+#[derive(Clone, Copy)]
 pub enum Item {
     Read { tag: u32, start: usize, end: usize },
     Faulty,

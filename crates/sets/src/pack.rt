@@ -9,7 +9,7 @@ use layout::size::{Peek, peek_matrix_size};
 
 // Where a pack starts and ends in the set, and the part of the tag list that it refines. It is a cursor too: what comes
 // next is looked for from its end on, with as many tags seen as its part ends at.
-#[derive(Drop)]
+#[derive(Clone, Copy)]
 pub struct PackPlace {
     pub start: usize,
     pub end: usize,
@@ -27,7 +27,7 @@ impl PackPlace {
     };
 }
 
-#[derive(Drop)]
+#[derive(Clone, Copy)]
 pub enum NextPack {
     Pack(PackPlace),
     Nothing,

@@ -15,7 +15,7 @@ use answers::{Check, Refusal};
 use layout::size::{Peek, peek_matrix_size};
 
 // How many packs a set has, and how many tags; or why it is refused.
-#[derive(Drop)]
+#[derive(Clone, Copy)]
 pub enum SetAnswer {
     Done { packs: usize, tags: usize },
     Refused(Refusal),

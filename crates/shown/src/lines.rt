@@ -37,7 +37,7 @@ pub fn put_deviations(count: usize, deviations: &[u64], at: usize, out: &mut [u8
 }
 
 // Where a slot stands.
-#[derive(Drop)]
+#[derive(Clone, Copy)]
 pub(crate) struct Pair {
     pub(crate) i: u64,
     pub(crate) j: u64,

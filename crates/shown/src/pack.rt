@@ -12,7 +12,7 @@ use replies::put::put_reply;
 use text::marks;
 
 // How much is lent of each list.
-#[derive(Drop)]
+#[derive(Clone, Copy)]
 pub struct Lent {
     pub deviations: u64,
     pub correlations: u64,

@@ -16,14 +16,14 @@ use crate::code::{put_slot, put_word};
 use plan::zero::zero_of;
 
 // What eight slots came to: their byte of the Bit Vector, and the place behind their codes.
-#[derive(Drop)]
+#[derive(Clone, Copy)]
 pub(crate) struct Group {
     pub(crate) bits: u8,
     pub(crate) next: usize,
 }
 
 // So many bytes of the Bit Vector, and the place behind the codes of their slots.
-#[derive(Drop)]
+#[derive(Clone, Copy)]
 pub(crate) struct Sent {
     pub(crate) bytes: usize,
     pub(crate) next: usize,

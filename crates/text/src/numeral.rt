@@ -4,14 +4,14 @@ ghost use Rattle.text.specs.Numeral.{worth, digit_at, decimal_at, hex_at};
 ghost use Rattle.text.specs.Numeral.{literal_at, end_at, decimal_up_to, spaced_at};
 
 // A number, and where the line goes on.
-#[derive(Drop)]
+#[derive(Clone, Copy)]
 pub enum Numeral {
     Read { value: u64, next: usize },
     Malformed,
 }
 
 // How an entry of a list is spelled: the bits of a binary64, or in decimal up to a limit.
-#[derive(Drop)]
+#[derive(Clone, Copy)]
 pub enum Entry {
     Bits,
     UpTo(u64),

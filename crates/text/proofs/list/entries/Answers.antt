@@ -1,0 +1,30 @@
+-- `list::entries` meets its contract. The invariant: what is left to read answers and stores as all of it.
+use mathlib.Core.Path.{sym, ◌∙◌}
+use Prim.Native.Nat.{◌-◌}
+use native.Mathlib.Omega.{arith}
+use borrow.Author.Rules.{rules}
+use lib.ListN.{length}
+use Rattle.text.proofs.Entered.{Entered, entered-none, entered-more, entered-bad, entered_all}
+use Rattle.text.proofs.list.entries.Goals as goal
+
+pub returns-in_default-clause-value : goal.returns-in_default-clause-value
+returns-in_default-clause-value c =
+    let p = c.loop-i.invariant in
+    entered-bad p (omega (arith, p.long))
+    (sym c.entry_after_space-number.ensures ∙ c.in_default.is)
+
+pub returns-in_default-clause-list_after : goal.returns-in_default-clause-list_after
+returns-in_default-clause-list_after c =
+    let p = c.loop-i.invariant in
+    entered-bad p (omega (arith, p.long))
+    (sym c.entry_after_space-number.ensures ∙ c.in_default.is)
+
+pub loop-i-preserved : goal.loop-i-preserved
+loop-i-preserved c =
+    let p = c.loop-i.invariant in
+    entered-more p (omega (arith, p.long)) (sym c.entry_after_space-number.ensures ∙ c.in-Read.is)
+
+pub returns-clause-list_after : goal.returns-clause-list_after
+returns-clause-list_after c =
+    let p = c.loop-i.invariant in
+    rw p.long (entered_all p (omega (arith, p.long)))

@@ -1,0 +1,20 @@
+-- `marks::mark_words` meets its contract: each turn marks the next of the first words.
+use mathlib.Core.Path.{◌≡◌, refl}
+use Prim.Native.Nat.{◌-◌, min}
+use native.Mathlib.Omega.{arith}
+use borrow.Author.Rules.{rules}
+use lib.ListN.{length}
+use Rattle.answers.proofs.Lent.{Front}
+use Rattle.answers.proofs.Tab.{tab-none, tab-room, tab-more, tab-done}
+use Rattle.text.specs.Marks.{word_mark, marked}
+use Rattle.text.proofs.marks.mark_words.Goals as goal
+
+pub loop-i-init : goal.loop-i-init
+loop-i-init c = tab-none c.within_words-end.result (λ _. word_mark) (omega (arith, c.within_words-end.ensures.1))
+
+pub loop-i-preserved : goal.loop-i-preserved
+loop-i-preserved c = tab-more _ (λ _. word_mark) c.loop-i.invariant c.loop-i-test.true refl
+
+pub returns : goal.returns
+returns c =
+    rw c.within_words-end.ensures.1 at (tab-done _ (λ _. word_mark) c.loop-i.invariant c.loop-i-test.false)

@@ -1,0 +1,15 @@
+use mathlib.Core.Path.{◌≡◌}
+use mathlib.Core.List.{[], ◌∷◌}
+use Prim.Native.Nat.{◌-◌, suc}
+use native.Mathlib.Omega.{arith}
+use borrow.Author.Rules.{rules}
+use Rattle.text.specs.Text.{figures}
+use Rattle.text.proofs.Figures.{hex-more}
+use Rattle.text.proofs.Pieces.{Rest, rest_all, rest_more, rest-done}
+use Rattle.text.proofs.put.put_hex.Given as goal
+
+abbrev pub invariant-loop-left : goal.invariant-loop-left
+invariant-loop-left l = Rest (figures 16 l.left l.value) l.next l.out (figures 16 l.digits l.value) l.at l.initial.out
+
+abbrev pub decreases-loop-left : goal.decreases-loop-left
+decreases-loop-left l = l.left

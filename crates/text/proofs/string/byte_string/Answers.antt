@@ -1,0 +1,23 @@
+-- `string::byte_string` meets its contract. The invariant: what is left to read counts and stores as all of it.
+use mathlib.Core.Path.{sym, ◌∙◌}
+use Prim.Native.Nat.{◌-◌}
+use native.Mathlib.Omega.{arith}
+use borrow.Author.Rules.{rules}
+use lib.ListN.{length}
+use Rattle.text.proofs.Spelled.{Spelled, spelled_none, spelled-more, spelled-end, spelled_out}
+use Rattle.text.proofs.string.byte_string.Goals as goal
+
+pub returns-in_default-clause-value : goal.returns-in_default-clause-value
+returns-in_default-clause-value c =
+    let p = c.loop-count.invariant in
+    spelled-end p (omega (arith, p.long)) (sym c.hex-pair.ensures ∙ c.in_default.is) c.spelled.ensures
+
+pub returns-in_default-clause-line_after : goal.returns-in_default-clause-line_after
+returns-in_default-clause-line_after c =
+    let p = c.loop-count.invariant in
+    spelled-end p (omega (arith, p.long)) (sym c.hex-pair.ensures ∙ c.in_default.is) c.spelled.ensures
+
+pub loop-count-preserved : goal.loop-count-preserved
+loop-count-preserved c =
+    let p = c.loop-count.invariant in
+    spelled-more p (omega (arith, p.long)) (sym c.hex-pair.ensures ∙ c.in-Read.is)
