@@ -13,10 +13,10 @@ more : (c : Then-x-above) → More c.args.x
 more c = falls-more c.requires (rw (above c.before) at c.if-x-above.true)
 
 pub truncating_f64_to_u64-whole-requires-clause-lower_bound : goal.truncating_f64_to_u64-whole-requires-clause-lower_bound
-truncating_f64_to_u64-whole-requires-clause-lower_bound c = reaches c.requires
+truncating_f64_to_u64-whole-requires-clause-lower_bound c = (reaches c.requires).0
 
 pub truncating_f64_to_u64-whole-requires-clause-upper_bound : goal.truncating_f64_to_u64-whole-requires-clause-upper_bound
-truncating_f64_to_u64-whole-requires-clause-upper_bound c = reaches c.requires
+truncating_f64_to_u64-whole-requires-clause-upper_bound c = (reaches c.requires).1
 
 pub overflow_add-whole : goal.overflow_add-whole
 overflow_add-whole c = rw c.truncating_f64_to_u64-whole.ensures (omega (arith, (more (goal.at.overflow_add-whole c).Then-x-above).0))

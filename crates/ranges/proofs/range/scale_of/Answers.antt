@@ -10,13 +10,13 @@ use Rattle.ranges.proofs.range.scale_of.Goals as goal
 pub overflow_sub-field : goal.overflow_sub-field
 overflow_sub-field c = omega (arith, (spanned c.requires.2).most)
 
-pub float_from_bits-result : goal.float_from_bits-result
-unfolding scale_in is_nan
-float_from_bits-result c = rw (nan_bits_is, returns (goal.at.float_from_bits-result c).After-power_field) tt
-
 pub returns : goal.returns
 unfolding scale_in
 returns c =
     let g = c.args.params in
     let s = spanned c.requires.2 in
     power-of _ (8 * g.length + 60) (power_of (span_of g.min g.max)) (omega (arith, s.most)) (omega (arith, s.least)) (omega (arith, s.most)) (omega (arith, s.most))
+
+pub float_from_bits-result : goal.float_from_bits-result
+unfolding scale_in is_nan
+float_from_bits-result c = rw (nan_bits_is, returns c) tt
