@@ -8,16 +8,12 @@ use Rattle.text.proofs.Entered.{Entered, entered-none, entered-more, entered-bad
 use Rattle.text.proofs.list.entries.Goals as goal
 
 pub returns-in_default-clause-value : goal.returns-in_default-clause-value
-returns-in_default-clause-value c =
-    let p = c.loop-i.invariant in
-    entered-bad p (omega (arith, p.long))
-    (sym c.entry_after_space-number.ensures ∙ c.in_default.is)
+returns-in_default-clause-value c = let p = c.loop-i.invariant in (entered-bad p (omega (arith, p.long))
+    (sym c.entry_after_space-number.ensures ∙ c.in_default.is)).0
 
 pub returns-in_default-clause-list_after : goal.returns-in_default-clause-list_after
-returns-in_default-clause-list_after c =
-    let p = c.loop-i.invariant in
-    entered-bad p (omega (arith, p.long))
-    (sym c.entry_after_space-number.ensures ∙ c.in_default.is)
+returns-in_default-clause-list_after c = let p = c.loop-i.invariant in (entered-bad p (omega (arith, p.long))
+    (sym c.entry_after_space-number.ensures ∙ c.in_default.is)).1
 
 pub loop-i-preserved : goal.loop-i-preserved
 loop-i-preserved c =
@@ -27,4 +23,4 @@ loop-i-preserved c =
 pub returns-clause-list_after : goal.returns-clause-list_after
 returns-clause-list_after c =
     let p = c.loop-i.invariant in
-    rw p.long (entered_all p (omega (arith, p.long)))
+    (entered_all p (omega (arith, p.long))).1

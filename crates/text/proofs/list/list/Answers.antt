@@ -14,6 +14,4 @@ was_read : (c : In-Read) → let a = c.args in
 was_read c = sym c.decimal_up_to-number.ensures ∙ c.in-Read.is
 
 pub returns-clause-room_after : goal.returns-clause-room_after
-returns-clause-room_after c =
-    let k = (goal.at.returns-clause-room_after c).In-Read in let a = k.args in
-    listed-all a.line.now a.room.now a.at (was_read k) a.entry c.entries.ensures
+returns-clause-room_after c = let k = (goal.at.returns-clause-room_after c).In-Read in let a = k.args in (listed-all a.line.now a.room.now a.at (was_read k) a.entry (c.entries.ensures.value, c.entries.ensures.list_after)).1

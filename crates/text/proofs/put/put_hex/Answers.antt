@@ -10,7 +10,7 @@ use Rattle.text.proofs.Pieces.{Rest, rest_all, rest_more, rest-done}
 use Rattle.text.proofs.put.put_hex.Goals as goal
 
 pub loop-left-init : goal.loop-left-init
-loop-left-init c = let a = c.args in rest_all (figures 16 a.digits a.value) a.at a.out.now c.within-next.ensures.1
+loop-left-init c = let a = c.args in rest_all (figures 16 a.digits a.value) a.at a.out.now c.within-next.ensures.value
 
 pub loop-left-preserved : goal.loop-left-preserved
 loop-left-preserved c =
