@@ -1,0 +1,32 @@
+-- `number::value_bits` meets its contract: only a NaN differs from itself.
+use mathlib.Core.Path.{◌≡◌, refl}
+use mathlib.Core.Bool.{false, not, true≢false}
+use mathlib.Core.List.{[], ◌∷◌}
+use borrow.Author.Rules.{rules}
+use denote.Enum.Declared.{tag_of}
+use lib.Dec.{T}
+use lib.Ieee.{Float, nan, inf, fin, binary64, to_bits, is_nan, ne}
+use lib.Ieee.Compare.{differs_from_itself}
+use types.Run.{OneOf, miss}
+use Rattle.imapb.specs.declared.decode.DecodedImapb.{DecodedImapb}
+use Rattle.imapb.specs.declared.decode.DecodedImapb.TheVariants.{Value, Special, ReservedSpecial, OutOfRange}
+use Rattle.imapb.specs.contracts.decode.DecodedImapb.{the_type}
+use Rattle.elements.specs.Elements.{value_bits}
+use Rattle.elements.proofs.number.value_bits.Goals as goal
+
+-- only a NaN has no bits
+equals_itself : (x : Float) → ne x x ≡ false → T (not (is_nan x))
+unfolding ne is_nan
+equals_itself nan h = absurd (true≢false h)
+equals_itself (inf s) h = tt
+equals_itself (fin s m e) h = tt
+
+nan_is : 0x7ff8000000000000 ≡ to_bits binary64 nan
+unfolding to_bits
+nan_is = refl
+
+pub float_to_bits-result : goal.float_to_bits-result
+float_to_bits-result c = equals_itself c.in-Value.x c.if-x.false
+
+pub returns-then-x : goal.returns-then-x
+returns-then-x c = rw (c.in-Value.is, differs_from_itself c.in-Value.x (rw c.if-x.true tt)) nan_is
