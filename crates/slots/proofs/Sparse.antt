@@ -46,7 +46,7 @@ pub bits-more : (b : ℕ → Bool) (j : ℕ) → bits_of b (j + 1) ≡ bits_of b
 bits-more b j = rw (add-one, spelt-append, bit-mod (b j))
 
 pub bits-low : (b : ℕ → Bool) (j : ℕ) → bits_of b j < 2 ^ j
-bits-low b j = rw (length-tab j (λ k. pick (b k) 1 0), one-mul) at (spelt-lt 2 (omega arith) {a = 0} {m = 1} (omega arith) (tab j (λ k. pick (b k) 1 0)))
+bits-low b j = rw (length-tab j (λ k. pick (b k) 1 0), one-mul) at (spelt-lt 2 (omega arith) 0 1 (omega arith) (tab j (λ k. pick (b k) 1 0)))
 
 -- eight of them fit a byte
 bits_fit : (b : ℕ → Bool) (j : ℕ) → j ≤ 8 → bits_of b j < 256

@@ -1,0 +1,14 @@
+use mathlib.Core.Path.{◌∙◌}
+use mathlib.Core.Logic.{⊎_elim}
+use Prim.Native.Nat.{◌+◌, ◌-◌, ◌*◌, ◌≤◌, ◌<◌}
+use native.Mathlib.Omega.{arith}
+use lib.ListN.{length, set, length-set}
+use lib.Seq.{set-set}
+use Rattle.slots.proofs.SentWords.{EightWords, words-start, words_long, words-room, words-place, words-byte, words-one, words-none, words-done}
+use Rattle.slots.proofs.marked.write_group_words.Given as goal
+
+abbrev pub invariant-loop-j : goal.invariant-loop-j
+invariant-loop-j l = EightWords l.correlations l.from l.clen l.at l.place l.initial.out l.j l.out l.next
+
+abbrev pub decreases-loop-j : goal.decreases-loop-j
+decreases-loop-j l = 8 - l.j

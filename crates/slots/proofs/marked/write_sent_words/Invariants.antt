@@ -1,0 +1,11 @@
+use Prim.Native.Nat.{◌-◌, ◌/◌, ◌<◌}
+use native.Mathlib.Omega.{arith}
+use lib.ListN.{length}
+use Rattle.slots.proofs.SentWords.{SentWords, sent-words-none, sent-words-long, sent-words-left, sent-words-place, sent-words-more, sent-words-done}
+use Rattle.slots.proofs.marked.write_sent_words.Given as goal
+
+abbrev pub invariant-loop-next : goal.invariant-loop-next
+invariant-loop-next l = SentWords l.correlations l.clen l.vector l.codes l.end l.initial.out l.i l.out l.next
+
+abbrev pub decreases-loop-next : goal.decreases-loop-next
+decreases-loop-next l = length l.correlations / 8 - l.i
