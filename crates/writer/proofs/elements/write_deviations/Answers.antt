@@ -1,0 +1,32 @@
+-- `elements::write_deviations` meets its contract: each turn writes the next deviation's four bytes behind those before
+-- it.
+use Prim.Native.Nat.{◌+◌, ◌-◌, ◌≤◌}
+use native.Mathlib.Omega.{arith}
+use lib.ListN.{length}
+use Rattle.answers.proofs.Runs.{Run, run_none, run_room, run_more, run-done}
+use Rattle.numbers.proofs.Bytes.{length-bytes}
+use Rattle.writer.specs.Pack.{deviation_bytes}
+use Rattle.writer.proofs.Lengths.{length-4}
+use Rattle.slots.proofs.Runs.{part-written}
+use Rattle.writer.proofs.elements.write_deviations.Goals as goal
+use Rattle.writer.proofs.elements.write_deviations.Goals.{In-loop-i}
+
+-- the next four bytes have room
+room : (c : In-loop-i) → c.loop-i.next + 4 ≤ length c.loop-i.out
+room c = rw length-bytes at (run_room c.loop-i.invariant c.loop-i-test.true)
+
+pub loop-i-init : goal.loop-i-init
+loop-i-init c = run_none (omega (arith, length-4 c.args.deviations.now))
+
+pub overflow_add-end : goal.overflow_add-end
+overflow_add-end c = omega (arith, room c)
+
+pub slice_bounds-write_be-end : goal.slice_bounds-write_be-end
+slice_bounds-write_be-end c = room (goal.at.slice_bounds-write_be-end c).In-loop-i
+
+pub loop-i-preserved : goal.loop-i-preserved
+loop-i-preserved c =
+    let t = (goal.at.loop-i-preserved c).In-loop-i in let l = t.loop-i in
+    run_more l.invariant t.loop-i-test.true
+    (part-written l.out l.next 4 (room t) c.binary64_to_binary32.ensures c.write_be.ensures)
+    (rw length-bytes)

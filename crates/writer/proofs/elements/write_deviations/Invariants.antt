@@ -1,0 +1,16 @@
+use Prim.Native.Nat.{◌+◌, ◌-◌, ◌≤◌}
+use native.Mathlib.Omega.{arith}
+use borrow.Author.Rules.{rules}
+use lib.ListN.{length}
+use Rattle.answers.proofs.Runs.{Run, run_none, run_room, run_more, run-done}
+use Rattle.numbers.proofs.Bytes.{length-bytes}
+use Rattle.writer.specs.Pack.{deviation_bytes}
+use Rattle.writer.proofs.Lengths.{length-4}
+use Rattle.slots.proofs.Runs.{part-written}
+use Rattle.writer.proofs.elements.write_deviations.Given as goal
+
+abbrev pub invariant-loop-i : goal.invariant-loop-i
+invariant-loop-i l = Run (length l.deviations) (deviation_bytes l.deviations) l.at l.initial.out l.i l.out l.next
+
+abbrev pub decreases-loop-i : goal.decreases-loop-i
+decreases-loop-i l = length l.deviations - l.i

@@ -1,0 +1,13 @@
+-- `elements::write_head` meets its contract: there is room, so that N is written, and the control behind it.
+use mathlib.Core.Path.{◌≡◌}
+use native.Mathlib.Omega.{arith}
+use lib.ListN.{length, length-set}
+use Rattle.numbers.specs.BerOid.{oid_length}
+use Rattle.writer.specs.Pack.{control_byte}
+use Rattle.writer.proofs.Head.{head_never, head-size, head-long, head-stored}
+use Rattle.writer.proofs.elements.write_head.Goals as goal
+
+pub returns : goal.returns
+returns c =
+    let a = c.args in
+    rw c.control_byte.ensures (head-stored a.rows (omega arith) a.out.now (omega arith) c.write_ber_oid-size.result c.write_ber_oid-size.new.1.0 c.write_ber_oid-size.ensures (control_byte a.sparse a.clen) 4 c.in-Done.is)
