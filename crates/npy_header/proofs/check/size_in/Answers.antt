@@ -1,0 +1,13 @@
+-- `check::size_in` meets its contract. The invariant: what is left to take, behind n, spells the size.
+use Prim.Native.Nat.{◌-◌}
+use native.Mathlib.Omega.{arith}
+use Rattle.npy_header.proofs.Headers.{Sizing, sizing-none, sizing-small, sizing-end, sizing-zero, sizing-more, sizing-done}
+use Rattle.npy_header.proofs.check.size_in.Goals as goal
+
+pub loop-i-init : goal.loop-i-init
+loop-i-init c = sizing-none c.args.file.now
+
+pub loop-i-preserved : goal.loop-i-preserved
+loop-i-preserved c =
+    let d = c.digit_at-digit.ensures in
+    rw d (sizing-more c.loop-i.invariant c.loop-i-test.true (omega (arith, d)) (λ z. c.if-n-eq0.false (omega (arith, d))))

@@ -1,0 +1,12 @@
+-- `header::pad` meets its contract: each turn stores a space more, and the newline stands behind them.
+use Prim.Native.Nat.{◌-◌}
+use native.Mathlib.Omega.{arith}
+use lib.ListN.{length-set}
+use Rattle.npy_header.proofs.Headers.{Padded, padded-none, padded-long, padded-more, padded-done}
+use Rattle.npy_header.proofs.header.pad.Goals as goal
+
+pub loop-next-preserved : goal.loop-next-preserved
+loop-next-preserved c = padded-more c.loop-next.invariant c.loop-next-test.true
+
+pub returns : goal.returns
+returns c = padded-done c.loop-next.invariant c.loop-next-test.false
