@@ -1,0 +1,17 @@
+use Rattle.std.proofs.Common.{◌≡◌, ℕ, ◌+◌, ◌-◌, ◌*◌, ◌≤◌, length, refl, zero-mul, arith}
+use Rattle.answers.specs.Lent.{tab}
+use Rattle.answers.proofs.Lent.{length-tab, Front}
+use Rattle.codes.specs.Fill.{Maps, Within, mapped_in}
+use Rattle.answers.proofs.Tab.{tab-none, tab-room, tab-more, tab-done}
+use Rattle.codes.proofs.Bounds.{within_none, within_more}
+use Rattle.codes.proofs.Marked.{code-there, code-next}
+use Rattle.codes.proofs.values.fill_all.Given as goal
+
+abbrev pub invariant-loop-k : goal.invariant-loop-k
+invariant-loop-k l = Front (tab l.slots (mapped_in l.bytes l.codes l.mapping.length)) l.initial.correlations l.k l.correlations
+    × Front (tab l.slots (λ _. 1)) l.initial.states l.k l.states
+    × (l.at ≡ l.codes + l.k * l.mapping.length)
+    × Within l.bytes l.codes l.mapping.length l.k l.met
+
+abbrev pub decreases-loop-k : goal.decreases-loop-k
+decreases-loop-k l = l.slots - l.k

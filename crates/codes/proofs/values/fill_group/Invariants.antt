@@ -1,0 +1,11 @@
+use Rattle.std.proofs.Common.{◌+◌, ◌-◌, ◌*◌, ◌^◌, ◌<◌, ◌≤◌, length, get_or, ⊎_elim, le_of_lt, arith, length-set}
+use Rattle.codes.specs.Fill.{Maps}
+use Rattle.codes.proofs.Counts.{fewer, up_fits, within-fits, entry-fits, starts-within, slot-within, slot-there}
+use Rattle.codes.proofs.Marked.{Group, group-none, group-long, group-code, group-set, group-unset, group-done}
+use Rattle.codes.proofs.values.fill_group.Given as goal
+
+abbrev pub invariant-loop-j : goal.invariant-loop-j
+invariant-loop-j l = Group (get_or l.bytes (l.vector + l.i) 0) l.bytes l.at l.mapping (8 * l.i) l.count l.initial.correlations l.initial.states l.met l.j l.correlations l.states l.next l.seen
+
+abbrev pub decreases-loop-j : goal.decreases-loop-j
+decreases-loop-j l = l.count - l.j
