@@ -1,3 +1,4 @@
 //! A matrix as a NumPy .npy file.
+#![tactic(auto)]
 pub mod export;
 mod write;

@@ -1,0 +1,17 @@
+use mathlib.Core.Path.{◌≡◌, refl, sym}
+use Prim.Native.Nat.{◌+◌, ◌-◌, ◌≤◌, ◌<◌}
+use native.Mathlib.Omega.{arith}
+use borrow.Author.Rules.{rules}
+use lib.ListN.{length}
+use Rattle.answers.proofs.Runs.{Run, run_none, run_room, run_more, run-done}
+use Rattle.layout.specs.Triangle.{slot_of}
+use Rattle.layout.proofs.RowByRow.{row-by-row, row-along}
+use Rattle.npy_export.specs.Parts.{slot_bytes}
+use Rattle.npy_export.proofs.Body.{length-right}
+use Rattle.npy_export.proofs.write.put_right.Given as goal
+
+abbrev pub invariant-loop-k : goal.invariant-loop-k
+invariant-loop-k l = Run (l.rows - 1 - l.i) (λ k. slot_bytes l.correlations (slot_of l.rows l.i (l.i + 1 + k))) l.at l.initial.out l.k l.out l.next
+
+abbrev pub decreases-loop-k : goal.decreases-loop-k
+decreases-loop-k l = l.rows - 1 - l.i - l.k
