@@ -3,13 +3,11 @@
 use mathlib.Core.Path.{◌≡◌, refl, sym, ◌∙◌}
 use mathlib.Core.Bool.{Bool, not}
 use mathlib.Core.List.{List, [], ◌∷◌}
-use mathlib.Core.Logic.{⊎_elim}
+use mathlib.Core.Logic.{◌⊎◌, ⊎_elim}
 use Prim.Native.Nat.{ℕ, ◌<◌}
 use native.Mathlib.Omega.{arith}
-use denote.Enum.Declared.{tag_of}
 use lib.Dec.{T, eqb, ltb}
 use lib.ListN.{length, get_or}
-use types.Run.{OneOf, miss}
 use Rattle.answers.specs.Table.{Entry, Answer, answer, wholes, pick, passes, plains}
 use Rattle.answers.proofs.Rules.{picked}
 use Rattle.layout.specs.declared.control.ParseControl.{ParseControl}
@@ -18,7 +16,6 @@ use Rattle.layout.specs.declared.rule.Rule.TheVariants.{A, B, C, D, E, F, G, H, 
 use Rattle.layout.specs.Header.{control_at, body_at, head_rules}
 use Rattle.layout.specs.Ruled.{passed, refused_by}
 use Rattle.layout.specs.Size.{fit_ruled}
-use Rattle.layout.specs.contracts.rule.Rule.{the_type}
 use Rattle.elements.specs.declared.head.Head.{Head}
 use Rattle.elements.specs.Elements.{head_of, deviations_at, deviation_count, codes_at, present_count, end_at}
 use Rattle.elements.specs.Formats.{deviation_format, code_format}
@@ -29,69 +26,60 @@ use Rattle.explain.specs.Found.{Sized, stopped_at}
 use Rattle.explain.proofs.Ends.{head-passes, fit-passes, placed, codes-start}
 use Rattle.explain.proofs.Stopped.{stopped}
 
--- ---- a rule by its tag
-tag_is : (x : Rule) → tag_of the_type x ≡ rank x
-tag_is A = refl
-tag_is B = refl
-tag_is C = refl
-tag_is D = refl
-tag_is E = refl
-tag_is F = refl
-tag_is G = refl
-tag_is H = refl
-tag_is I = refl
-tag_is J = refl
-tag_is K = refl
-
-tagged : (x y : Rule) → tag_of the_type x ≡ rank y → x ≡ y
-tagged x y h = same_rank x y (sym (tag_is x) ∙ h)
-
 module _ (bytes : List ℕ) where
   -- a), d)
-  pub at_front : (x : Rule) → OneOf (0 ∷ 3 ∷ []) (tag_of the_type x) → 0 ≡ place_of bytes x
-  at_front x t = ⊎_elim (λ h. rw (tagged x A h)) (λ h. rw (tagged x D h)) t
+  pub at_front : (x : Rule) → (x ≡ A) ⊎ (x ≡ D) → 0 ≡ place_of bytes x
+  at_front x t = ⊎_elim (λ h. rw h) (λ h. rw h) t
 
   module _ {x : Rule} {a : Answer} (e : pack_ruled bytes ≡ refused_by x a) where
-    before : (z y : Rule) → tag_of the_type x ≡ rank z → rank y < rank z → (rule_of bytes y).number ≡ 0
-    before z y h l = (refused-by bytes e).0.before y (rw (tagged x z h) l)
+    before : (z y : Rule) → x ≡ z → rank y < rank z → (rule_of bytes y).number ≡ 0
+    before z y h l = (refused-by bytes e).0.before y (rw h l)
 
     -- b), c)
-    pub at-control : OneOf (1 ∷ 2 ∷ []) (tag_of the_type x) → Sized bytes × (control_at bytes ≡ place_of bytes x)
+    pub at-control : (x ≡ B) ⊎ (x ≡ C) → Sized bytes × (control_at bytes ≡ place_of bytes x)
     at-control t =
-        ⊎_elim (λ h. (before B A h (omega arith), rw (tagged x B h))) (λ h. (before C A h (omega arith), rw (tagged x C h))) t
+        ⊎_elim (λ h. (before B A h (omega arith), rw h)) (λ h. (before C A h (omega arith), rw h)) t
 
     -- e) to g)
-    headed : (z : Rule) → 1 < rank z → tag_of the_type x ≡ rank z → (head_rules bytes).number ≡ 0
+    headed : (z : Rule) → 1 < rank z → x ≡ z → (head_rules bytes).number ≡ 0
     headed z l h = head-passes bytes (before z A h (omega arith)) (before z B h l)
 
-    pub at_body : OneOf (4 ∷ 5 ∷ 6 ∷ []) (tag_of the_type x) → ((head_rules bytes).number ≡ 0) × (body_at bytes ≡ place_of bytes x)
+    pub at_body : (x ≡ E) ⊎ ((x ≡ F) ⊎ (x ≡ G)) → ((head_rules bytes).number ≡ 0) × (body_at bytes ≡ place_of bytes x)
     at_body t =
-        ⊎_elim (λ h. (headed E (omega arith) h, rw (tagged x E h)))
-        (λ t. ⊎_elim (λ h. (headed F (omega arith) h, rw (tagged x F h))) (λ h. (headed G (omega arith) h, rw (tagged x G h))) t)
+        ⊎_elim (λ h. (headed E (omega arith) h, rw h))
+        (λ t. ⊎_elim (λ h. (headed F (omega arith) h, rw h)) (λ h. (headed G (omega arith) h, rw h)) t)
         t
 
     -- h) to k): a) to g) pass
-    pub late : OneOf (7 ∷ 8 ∷ 9 ∷ 10 ∷ []) (tag_of the_type x) → 6 < rank x
-    late t =
-        let r = rw (tag_is x) at t in
-        ⊎_elim (λ h. omega arith) (λ r. ⊎_elim (λ h. omega arith) (λ r. ⊎_elim (λ h. omega arith) (λ h. omega arith) r) r) r
-
     pub all_fit : 6 < rank x → fit_ruled bytes ≡ passed
     all_fit l = fit-passes bytes (λ y k. (refused-by bytes e).0.before y (omega (arith, l, k)))
 
 -- ---- h) to k), one by one
-pub last-is : (x : Rule) → 6 < rank x → OneOf (0 ∷ 1 ∷ 2 ∷ 3 ∷ 4 ∷ 5 ∷ 6 ∷ 10 ∷ []) (tag_of the_type x) → x ≡ K
-last-is H l t = absurd (miss (0 ∷ 1 ∷ 2 ∷ 3 ∷ 4 ∷ 5 ∷ 6 ∷ 10 ∷ []) 7 tt t)
-last-is I l t = absurd (miss (0 ∷ 1 ∷ 2 ∷ 3 ∷ 4 ∷ 5 ∷ 6 ∷ 10 ∷ []) 8 tt t)
-last-is J l t = absurd (miss (0 ∷ 1 ∷ 2 ∷ 3 ∷ 4 ∷ 5 ∷ 6 ∷ 10 ∷ []) 9 tt t)
-last-is K l t = refl
-last-is A l t = absurd (omega arith)
-last-is B l t = absurd (omega arith)
-last-is C l t = absurd (omega arith)
-last-is D l t = absurd (omega arith)
-last-is E l t = absurd (omega arith)
-last-is F l t = absurd (omega arith)
-last-is G l t = absurd (omega arith)
+pub late : (x : Rule) → (x ≡ A → ⊥) → (x ≡ B → ⊥) → (x ≡ C → ⊥) → (x ≡ D → ⊥) → (x ≡ E → ⊥) → (x ≡ F → ⊥) → (x ≡ G → ⊥) → 6 < rank x
+late A a b c d e f g = absurd (a refl)
+late B a b c d e f g = absurd (b refl)
+late C a b c d e f g = absurd (c refl)
+late D a b c d e f g = absurd (d refl)
+late E a b c d e f g = absurd (e refl)
+late F a b c d e f g = absurd (f refl)
+late G a b c d e f g = absurd (g refl)
+late H a b c d e f g = omega arith
+late I a b c d e f g = omega arith
+late J a b c d e f g = omega arith
+late K a b c d e f g = omega arith
+
+pub last-is : (x : Rule) → 6 < rank x → (x ≡ H → ⊥) → (x ≡ I → ⊥) → (x ≡ J → ⊥) → x ≡ K
+last-is H l h i j = absurd (h refl)
+last-is I l h i j = absurd (i refl)
+last-is J l h i j = absurd (j refl)
+last-is K l h i j = refl
+last-is A l h i j = absurd (omega arith)
+last-is B l h i j = absurd (omega arith)
+last-is C l h i j = absurd (omega arith)
+last-is D l h i j = absurd (omega arith)
+last-is E l h i j = absurd (omega arith)
+last-is F l h i j = absurd (omega arith)
+last-is G l h i j = absurd (omega arith)
 
 -- no format is refused by 1
 pub record Other (a : Answer) : Type 0 where

@@ -1,0 +1,9 @@
+-- `spans::control_at` meets its contract: N was read.
+use mathlib.Core.Path.{sym, ◌∙◌}
+use native.Mathlib.Omega.{arith}
+use Rattle.numbers.proofs.BerOid.{read-tells}
+use Rattle.explain.proofs.spans.control_at.Goals as goal
+
+pub returns : goal.returns
+returns c =
+    (read-tells c.args.bytes.now (sym c.in-Read.is ∙ c.read_ber_oid-oid.ensures)).0
