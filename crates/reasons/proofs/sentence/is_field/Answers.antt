@@ -1,40 +1,35 @@
 -- `put::is_field` meets its contract: the tests in turn.
--- Assumes nothing.
 use native.Mathlib.Omega.{arith}
 use borrow.Author.Tests.{le-leb, lt-leb}
 use Rattle.reasons.specs.Sentences.{is_field}
-use Rattle.reasons.proofs.sentence.is_field.Statement.{statement}
-use Rattle.reasons.proofs.sentence.is_field.Tie as tie
+use Rattle.reasons.proofs.sentence.is_field.Goals as goal
 
-returns : tie.Need-returns
+pub returns-in-76-to-78 : goal.returns-in-76-to-78
 unfolding is_field
-returns c =
-    let l = c.before.before.args.letter in
+returns-in-76-to-78 c =
+    let l = c.args.letter in
     rw (le-leb 0x4c l (omega arith), le-leb l 0x4e (omega arith))
 
-returns-2 : tie.Need-returns-2
+pub returns-in-80-to-83 : goal.returns-in-80-to-83
 unfolding is_field
-returns-2 c =
-    let l = c.before.before.before.before.args.letter in
+returns-in-80-to-83 c =
+    let l = c.args.letter in
     rw (le-leb 0x4c l (omega arith), lt-leb l 0x4e (omega arith), le-leb 0x50 l (omega arith), le-leb l 0x53 (omega arith))
 
-returns-3 : tie.Need-returns-3
+pub returns-in_default : goal.returns-in_default
 unfolding is_field
-returns-3 c =
-    let l = c.before.args.letter in
+returns-in_default c =
+    let l = c.args.letter in
     rw (lt-leb 0x4c l (omega arith), lt-leb 0x50 l (omega arith))
 
-returns-4 : tie.Need-returns-4
+pub returns-in_default-2 : goal.returns-in_default-2
 unfolding is_field
-returns-4 c =
-    let l = c.before.before.before.args.letter in
+returns-in_default-2 c =
+    let l = c.args.letter in
     rw (le-leb 0x4c l (omega arith), lt-leb l 0x4e (omega arith), lt-leb 0x50 l (omega arith))
 
-returns-5 : tie.Need-returns-5
+pub returns-in_default-3 : goal.returns-in_default-3
 unfolding is_field
-returns-5 c =
-    let l = c.before.before.before.before.args.letter in
+returns-in_default-3 c =
+    let l = c.args.letter in
     rw (le-leb 0x4c l (omega arith), lt-leb l 0x4e (omega arith), le-leb 0x50 l (omega arith), lt-leb l 0x53 (omega arith))
-
-pub is-field-spec : {M : Type 1} → statement M
-is-field-spec = tie.close (tie.spec returns returns-2 returns-3 returns-4 returns-5)

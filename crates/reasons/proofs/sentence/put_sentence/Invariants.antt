@@ -1,0 +1,19 @@
+use Prim.Native.Nat.{◌-◌}
+use native.Mathlib.Numerals.{add-one}
+use native.Mathlib.Omega.{arith}
+use mathlib.Core.Path.{refl, sym, ◌∙◌}
+use borrow.Author.Rules.{rules}
+use borrow.Author.Tests.{eq-eqb, ne_eqb}
+use lib.ListN.{drop, drop_of_length-le}
+use Rattle.text.specs.Forms.{spread}
+use Rattle.text.proofs.Forms.{spread_end, spread-more}
+use Rattle.text.proofs.Pieces.{Rest, rest_all, rest_more, rest-done}
+use Rattle.reasons.specs.Sentences.{sentence_of, letter_of, is_end, text_of, sentence_text}
+use Rattle.reasons.proofs.Rows.{sentence-short}
+use Rattle.reasons.proofs.sentence.put_sentence.Given as goal
+
+abbrev pub invariant-loop-i : goal.invariant-loop-i
+invariant-loop-i l = Rest (spread is_end (text_of l.facts) (drop l.i (sentence_of l.sentence))) l.next l.out (sentence_text l.sentence l.facts) l.at l.initial.out
+
+abbrev pub decreases-loop-i : goal.decreases-loop-i
+decreases-loop-i l = 96 - l.i
