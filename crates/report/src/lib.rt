@@ -1,4 +1,5 @@
 //! Which bytes the program prints for which input.
+#![tactic(auto)]
 pub mod answer;
 mod pack;
 pub mod print;

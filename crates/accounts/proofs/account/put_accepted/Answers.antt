@@ -1,0 +1,17 @@
+-- `account::put_accepted` meets its contract: one piece behind the other.
+use mathlib.Core.Path.{sym, ap, ◌∙◌}
+use Rattle.explain.specs.declared.spans.Elements.{Elements}
+use Rattle.explain.proofs.Joined.{joined}
+use Rattle.text.proofs.Pieces.{put_then}
+use Rattle.accounts.proofs.Told.{told}
+use Rattle.accounts.proofs.account.put_accepted.Goals as goal
+
+pub put_slots-requires : goal.put_slots-requires
+put_slots-requires c =
+    let b = c.args.bytes.now in
+    let e = c.requires.0 in
+    (rw c.requires.1 (told b e), ap (λ (x : Elements). x.codes.start) c.requires.2 ∙ rw c.requires.1 (sym (joined b e).first))
+
+pub returns : goal.returns
+returns c =
+    put_then (put_then c.put_named-sized.ensures c.put_elements-placed.ensures) c.put_slots.ensures

@@ -1,0 +1,22 @@
+use mathlib.Core.Path.{◌≡◌, refl, ap, ◌∙◌}
+use mathlib.Core.List.{◌++◌}
+use Prim.Native.Nat.{◌+◌, ◌-◌, ◌<◌}
+use native.Mathlib.Omega.{arith}
+use borrow.Author.Rules.{rules}
+use Rattle.answers.specs.Lent.{joined}
+use Rattle.layout.specs.Triangle.{slots_of, slot_of}
+use Rattle.layout.proofs.Along.{Along, along-none, none_passed, along-more, one_more, the-next, passed-below, slot_at, slot-below}
+use Rattle.explain.specs.Slots.{code_at, slot_code}
+use Rattle.text.proofs.Pieces.{Puts, puts_none, puts-more, puts-done, put-long}
+use Rattle.parts.specs.Parts.{gap, slot_text}
+use Rattle.accounts.proofs.Told.{is-slot, slot-behind, slots-fit}
+use Rattle.accounts.proofs.slots.put_row.Given as goal
+
+abbrev pub invariant-loop-j : goal.invariant-loop-j
+invariant-loop-j l = Puts (l.head.n - 1 - l.i)
+    (λ m. joined m (λ k. gap l.lines ++ slot_text l.lines l.bytes l.i (l.i + 1 + k) (slot_code l.bytes l.head (slot_of l.head.n l.i (l.i + 1 + k)))))
+    l.at l.initial.out (l.j - 1 - l.i) l.out l.next
+    × Along l.i l.first l.slot l.j × (l.code ≡ code_at l.bytes l.head l.slot)
+
+abbrev pub decreases-loop-j : goal.decreases-loop-j
+decreases-loop-j l = l.rows - l.j

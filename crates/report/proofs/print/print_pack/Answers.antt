@@ -1,0 +1,11 @@
+-- `print::print_pack` meets its contract: there is room for any text, or nothing is stored.
+use native.Mathlib.Omega.{arith}
+use Rattle.lines.proofs.Printed.{print-none, print-whole}
+use Rattle.report.specs.Printed.{room, printed}
+use Rattle.report.proofs.Done.{printed-fits}
+use Rattle.report.proofs.print.print_pack.Goals as goal
+
+pub returns : goal.returns
+returns c =
+    let a = c.args in
+    print-whole room (printed a.bytes.now) a.out.now (omega arith) (printed-fits a.bytes.now) c.put_printed.ensures

@@ -1,0 +1,14 @@
+-- `print::put_printed` meets its contract.
+use mathlib.Core.Path.{sym, ◌∙◌}
+use Rattle.report.specs.Printed.{printed}
+use Rattle.report.proofs.print.put_printed.Goals as goal
+
+pub returns-then-is_too_big : goal.returns-then-is_too_big
+unfolding printed
+returns-then-is_too_big c =
+    rw (sym c.is_too_big.ensures ∙ c.if-is_too_big.true) c.put_text.ensures
+
+pub returns : goal.returns
+unfolding printed
+returns c =
+    rw (sym c.is_too_big.ensures ∙ c.if-is_too_big.false) c.put_read.ensures
