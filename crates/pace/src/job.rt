@@ -1,4 +1,6 @@
 //! The arguments: what is done, on which matrix, and how often.
+use std::env::FillError;
+use std::rt::Env;
 use text::numeral::{Numeral, decimal};
 
 // Each does the first six in turn. Idle does nothing, so that what the repetitions themselves cost can be taken off.
@@ -34,9 +36,11 @@ pub(crate) struct Job {
 }
 
 // An argument that is a number; 0 where it is none.
-fn number(i: usize) -> usize {
+fn number<E: Env>(env: &E, i: usize) -> usize {
     let mut text = [0u8; 20];
-    let count = os::arg(i, &mut text);
+    let Ok(count) = env.arg(i, &mut text) else {
+        return 0;
+    };
     match decimal(&text[..count], 0) {
         Numeral::Read { value, next: _ } => value as usize,
         Numeral::Malformed => 0,
@@ -44,10 +48,16 @@ fn number(i: usize) -> usize {
 }
 
 // The first letters of an argument that is a word.
-fn letters(i: usize) -> [u8; 10] {
+fn letters<E: Env>(env: &E, i: usize) -> [u8; 10] {
     let mut text = [0u8; 10];
-    os::arg(i, &mut text);
+    let _ = env.arg(i, &mut text);
     text
+}
+
+// Whether there are so many arguments.
+fn has<E: Env>(env: &E, i: usize) -> bool {
+    let mut text = [0u8; 20];
+    !matches!(env.arg(i, &mut text), Err(FillError::NotPresent))
 }
 
 // By the first letter; any other word idles.
@@ -76,8 +86,8 @@ fn kind_of(word: [u8; 10]) -> Kind {
 }
 
 // What the arguments ask for, and without them each operation three times on a small pack.
-pub(crate) fn asked() -> Job {
-    if os::arg_count() < 6 {
+pub(crate) fn asked<E: Env>(env: &E) -> Job {
+    if !has(env, 5) {
         return Job {
             op: Op::Each,
             rows: 4,
@@ -87,10 +97,10 @@ pub(crate) fn asked() -> Job {
         };
     }
     Job {
-        op: op_of(letters(1)),
-        rows: number(2),
-        clen: number(3),
-        kind: kind_of(letters(4)),
-        reps: number(5),
+        op: op_of(letters(env, 1)),
+        rows: number(env, 2),
+        clen: number(env, 3),
+        kind: kind_of(letters(env, 4)),
+        reps: number(env, 5),
     }
 }

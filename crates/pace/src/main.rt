@@ -1,5 +1,6 @@
 //! Does one operation of the codec over and over, so that its cost can be measured (bench/run):
 //! pace OP N CLEN KIND REPS.
+#![tactic(auto)]
 mod cells;
 mod codes;
 mod figure;
@@ -11,6 +12,7 @@ use figure::REFUSED;
 use job::{Job, Kind, Op};
 use layout::pack::SdccFlp;
 use layout::triangle::corr_slots;
+use std::io;
 use text::part::{within, within_words};
 
 // The largest matrix.
@@ -70,27 +72,17 @@ fn measured(
 
 // The job, on rooms of the matrix's own size.
 fn run(
+    rt: &impl Print,
     job: Job,
     deviations: &mut [u64],
     correlations: &mut [u64],
     states: &mut [u8],
     room: &mut [u8],
-) {
+) -> io::Result<()> {
     let made = make(job, deviations, correlations, room);
     let length = within(made, room);
     let figure = measured(job, deviations, correlations, states, &mut room[..length]);
-    report(length as u64, figure);
-}
-
-fn report(length: u64, figure: u64) {
-    print(b"pack ", length);
-    print(b" figure ", figure);
-    io::write_all(libc::STDOUT_FILENO, b"\n");
-}
-
-fn print(text: &[u8], value: u64) {
-    io::write_all(libc::STDOUT_FILENO, text);
-    io::print_decimal(libc::STDOUT_FILENO, value);
+    println!(rt; "pack {length} figure {figure}")
 }
 
 // The arrays come from calls: the check would count the elements of one that `main` makes itself.
@@ -110,21 +102,22 @@ fn room_for_pack() -> [u8; BYTES] {
     [0; BYTES]
 }
 
-fn main() {
+fn main(rt: HostRuntime) -> io::Result<()> {
     let mut deviations = room_for_deviations();
     let mut correlations = room_for_correlations();
     let mut states = room_for_states();
     let mut pack = room_for_pack();
-    let job = job::asked();
+    let job = job::asked(&rt);
     let rows = within_words(job.rows, &deviations);
     let slots = corr_slots(rows as u32) as usize;
     let sent = within_words(slots, &correlations);
     let told = within(slots, &states);
     run(
+        &rt,
         job,
         &mut deviations[..rows],
         &mut correlations[..sent],
         &mut states[..told],
         &mut pack,
-    );
+    )
 }

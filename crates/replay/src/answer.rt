@@ -20,6 +20,8 @@ use replies::pack::of_peek;
 use replies::put::put_reply;
 use replies::reply::{Reply, words};
 use requests::request::Request;
+use std::io;
+use std::io::Write;
 use text::part::within;
 
 // The requests that are answered by a form alone.
@@ -41,20 +43,21 @@ fn short(request: Request, given: &[u8], lists: &[u64]) -> Reply {
 }
 
 // The requests that leave the bytes that they are given as they are.
-fn answer_given(
+fn answer_given<W: Write>(
+    stream: &mut W,
     request: Request,
     given: &[u8],
     lists: &mut [u64],
     at: usize,
     out: &mut [u8],
-) -> usize {
+) -> io::Result<usize> {
     let form = request.form;
     match form {
-        7 => put_print(given, at, out),
-        8 | READ_IN | FROM_NPY => put_read(request, given, lists, at, out),
-        WHY => put_account(false, given, at, out),
-        SET => put_set(request, given, at, out),
-        _ => put_reply(short(request, given, lists), at, out),
+        7 => Ok(put_print(given, at, out)),
+        8 | READ_IN | FROM_NPY => Ok(put_read(request, given, lists, at, out)),
+        WHY => Ok(put_account(false, given, at, out)),
+        SET => put_set(stream, request, given, at, out),
+        _ => Ok(put_reply(short(request, given, lists), at, out)),
     }
 }
 
@@ -64,16 +67,17 @@ fn writes(form: usize) -> bool {
 }
 
 // What a request gives stands in the front of the bytes, and what it writes goes there.
-pub(crate) fn answer(
+pub(crate) fn answer<W: Write>(
+    stream: &mut W,
     request: Request,
     bytes: &mut [u8],
     lists: &mut [u64],
     at: usize,
     out: &mut [u8],
-) -> usize {
+) -> io::Result<usize> {
     if writes(request.form) {
-        return put_write(request, lists, bytes, at, out);
+        return Ok(put_write(request, lists, bytes, at, out));
     }
     let given = within(request.given as usize, bytes);
-    answer_given(request, &bytes[..given], lists, at, out)
+    answer_given(stream, request, &bytes[..given], lists, at, out)
 }

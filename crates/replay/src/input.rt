@@ -1,4 +1,6 @@
 //! The input, a block at a time, and the output, written when there is enough of it.
+use std::io;
+use std::io::{Read, Write};
 use text::part::within;
 use text::put::put_byte;
 
@@ -6,23 +8,31 @@ use text::put::put_byte;
 pub(crate) const HELD: usize = 65_536;
 
 // The block's bytes are read anew. The input's end ends a line that was begun, as a newline does.
-pub(crate) fn refill(block: &mut [u8], read: usize) -> usize {
-    let got = libc::read(libc::STDIN_FILENO, block);
-    let count = io::count(got, block);
+pub(crate) fn refill<R: Read>(
+    reader: &mut R,
+    block: &mut [u8],
+    read: usize,
+) -> io::Result<usize> {
+    let count = reader.read(block)?;
     if count == 0 {
         if 0 < read {
-            return put_byte(b'\n', 0, block);
+            return Ok(put_byte(b'\n', 0, block));
         }
     }
-    count
+    Ok(count)
 }
 
 // What is held is written out where it is more than that, and nothing is held any more.
-pub(crate) fn flush_above(most: usize, held: usize, out: &[u8]) -> usize {
+pub(crate) fn flush_above<W: Write>(
+    stream: &mut W,
+    most: usize,
+    held: usize,
+    out: &[u8],
+) -> io::Result<usize> {
     if most < held {
         let count = within(held, out);
-        io::write_all(libc::STDOUT_FILENO, &out[..count]);
-        return 0;
+        stream.write_all(&out[..count])?;
+        return Ok(0);
     }
-    held
+    Ok(held)
 }

@@ -1,4 +1,5 @@
 //! Answers requests: a line of standard input each, and a line of standard output for each.
+#![tactic(auto)]
 mod answer;
 mod cells;
 mod files;
@@ -14,6 +15,8 @@ use answer::answer;
 use input::{HELD, flush_above, refill};
 use requests::limits::{BYTES, FILE, WORDS};
 use requests::request::read_request;
+use std::io;
+use std::io::Write;
 use text::part::within;
 use text::put::put_byte;
 
@@ -28,22 +31,31 @@ fn fitting(read: usize) -> usize {
 }
 
 // The request, and its answer. What is held is written out when there is much of it.
-fn answer_line(
+fn answer_line<W: Write>(
+    stream: &mut W,
     read: usize,
     line: &mut [u8],
     words: &mut [u64],
     at: usize,
     out: &mut [u8],
-) -> usize {
+) -> io::Result<usize> {
     let count = within(fitting(read), line);
     let request = read_request(&mut line[..count], words);
-    let answered = answer(request, line, words, at, out);
-    flush_above(HELD, put_byte(b'\n', answered, out), out)
+    let answered = answer(stream, request, line, words, at, out)?;
+    let put = put_byte(b'\n', answered, out);
+    flush_above(stream, HELD, put, out)
 }
 
 // Answers each line that the block ends, and says how much of the next is read. What a line has no room for is dropped.
 // What is held is written before the next block is read, so that whoever asks line by line is answered at once.
-fn feed(block: &[u8], begun: usize, line: &mut [u8], words: &mut [u64], out: &mut [u8]) -> usize {
+fn feed<W: Write>(
+    stream: &mut W,
+    block: &[u8],
+    begun: usize,
+    line: &mut [u8],
+    words: &mut [u64],
+    out: &mut [u8],
+) -> io::Result<usize> {
     let mut read = begun;
     let mut at: usize = 0;
     let mut i: usize = 0;
@@ -51,20 +63,24 @@ fn feed(block: &[u8], begun: usize, line: &mut [u8], words: &mut [u64], out: &mu
         let byte = block[i];
         i += 1;
         if byte == b'\n' {
-            at = answer_line(read, line, words, at, out);
+            at = answer_line(stream, read, line, words, at, out)?;
             read = 0;
         } else {
             read = put_byte(byte, read, line);
         }
     }
-    flush_above(0, at, out);
-    read
+    flush_above(stream, 0, at, out)?;
+    Ok(read)
 }
 
 // The arrays come from calls: the check would count the elements of one that `main` makes itself.
 // What a request writes goes where its line stood, and of that a file is lent the most.
 fn room_for_line() -> [u8; FILE] {
     [0; FILE]
+}
+
+fn room_for_block() -> [u8; HELD] {
+    [0; HELD]
 }
 
 fn room_for_words() -> [u64; WORDS] {
@@ -76,8 +92,8 @@ fn room_for_output() -> [u8; OUT] {
 }
 
 // The turns are counted down, from a number that no run uses up, since nothing says that the input ends.
-fn main() {
-    let mut block = io::large_buffer();
+fn main(rt: HostRuntime) -> io::Result<()> {
+    let mut block = room_for_block();
     let mut line = room_for_line();
     let mut words = room_for_words();
     let mut out = room_for_output();
@@ -85,11 +101,19 @@ fn main() {
     let mut turns = u64::MAX;
     while 0 < turns {
         turns -= 1;
-        let got = refill(&mut block, read);
+        let got = refill(&mut rt.stdin(), &mut block, read)?;
         let end = within(got, &block);
         if end == 0 {
-            return;
+            return Ok(());
         }
-        read = feed(&block[..end], read, &mut line, &mut words, &mut out);
+        read = feed(
+            &mut rt.stdout(),
+            &block[..end],
+            read,
+            &mut line,
+            &mut words,
+            &mut out,
+        )?;
     }
+    Ok(())
 }

@@ -12,6 +12,8 @@ use sets::part::{pack_part, tags_part};
 use sets::set::{SetAnswer, read_set};
 use shown::tags::{TAG_MARK, tags_changed, within_tags};
 use shown::touched::put_touched;
+use std::io;
+use std::io::Write;
 
 // The array comes from a call: the check would count the elements of one that is made where it is used.
 fn room_for_tags() -> [u32; TAGS] {
@@ -60,66 +62,87 @@ fn pack_behind(k: usize, set: &[u8], tags: &[u32], before: PackPlace) -> NextPac
 }
 
 // The places of the packs, so many, each behind a `;`.
-fn put_packs(count: usize, set: &[u8], tags: &[u32], at: usize, out: &mut [u8]) -> usize {
+fn put_packs<W: Write>(
+    stream: &mut W,
+    count: usize,
+    set: &[u8],
+    tags: &[u32],
+    at: usize,
+    out: &mut [u8],
+) -> io::Result<usize> {
     let mut next = at;
     let mut place = PackPlace::NONE;
     let mut k: usize = 0;
     while k < count {
         let NextPack::Pack(found) = pack_behind(k, set, tags, place) else {
-            return next;
+            return Ok(next);
         };
         k += 1;
         place = found;
-        next = flush_above(HELD, put_reply(of_place(place), next, out), out);
+        let put = put_reply(of_place(place), next, out);
+        next = flush_above(stream, HELD, put, out)?;
     }
-    next
+    Ok(next)
 }
 
-fn put_tag(tag: u32, at: usize, out: &mut [u8]) -> usize {
-    flush_above(HELD, put_reply(one(forms::TAG, tag as u64), at, out), out)
+fn put_tag<W: Write>(stream: &mut W, tag: u32, at: usize, out: &mut [u8]) -> io::Result<usize> {
+    let put = put_reply(one(forms::TAG, tag as u64), at, out);
+    flush_above(stream, HELD, put, out)
 }
 
 // The tags behind a `;`, or a word for none.
-fn put_tags(tags: &[u32], at: usize, out: &mut [u8]) -> usize {
+fn put_tags<W: Write>(
+    stream: &mut W,
+    tags: &[u32],
+    at: usize,
+    out: &mut [u8],
+) -> io::Result<usize> {
     let mut next = put_reply(words(forms::TAGS), at, out);
     if tags.len() == 0 {
-        return put_reply(words(forms::NO_TAGS), next, out);
+        return Ok(put_reply(words(forms::NO_TAGS), next, out));
     }
     let mut i: usize = 0;
     while i < tags.len() {
-        next = put_tag(tags[i], next, out);
+        next = put_tag(stream, tags[i], next, out)?;
         i += 1;
     }
-    next
+    Ok(next)
 }
 
 // What stands behind the reply, and whether the list was touched: all of it is to be as lent where the set is refused,
 // and what is behind the tags where it is not.
-fn put_behind(
+fn put_behind<W: Write>(
+    stream: &mut W,
     answer: SetAnswer,
     room: u64,
     set: &[u8],
     tags: &[u32],
     at: usize,
     out: &mut [u8],
-) -> usize {
+) -> io::Result<usize> {
     let SetAnswer::Done {
         packs,
         tags: stored,
     } = answer
     else {
-        return put_touched(tags_changed(tags, 0, room), at, out);
+        return Ok(put_touched(tags_changed(tags, 0, room), at, out));
     };
     let count = within_tags(stored, tags);
     let lent = within_tags(room as usize, tags);
-    let placed = put_packs(packs, set, &tags[..lent], at, out);
-    let listed = put_tags(&tags[..count], placed, out);
-    put_touched(tags_changed(tags, count, room), listed, out)
+    let placed = put_packs(stream, packs, set, &tags[..lent], at, out)?;
+    let listed = put_tags(stream, &tags[..count], placed, out)?;
+    Ok(put_touched(tags_changed(tags, count, room), listed, out))
 }
 
-pub(crate) fn put_set(request: Request, set: &[u8], at: usize, out: &mut [u8]) -> usize {
+pub(crate) fn put_set<W: Write>(
+    stream: &mut W,
+    request: Request,
+    set: &[u8],
+    at: usize,
+    out: &mut [u8],
+) -> io::Result<usize> {
     let mut tags = room_for_tags();
     let answer = read(request.room, set, &mut tags);
     let said = put_reply(of_set(answer), at, out);
-    put_behind(answer, request.room, set, &tags, said, out)
+    put_behind(stream, answer, request.room, set, &tags, said, out)
 }

@@ -1,4 +1,5 @@
 //! A request: which form a line has, and what its fields say.
+#![tactic(auto)]
 mod fields;
 mod form;
 pub mod limits;

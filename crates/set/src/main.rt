@@ -1,11 +1,16 @@
 //! Reads a set's value from standard input and prints each of its packs, where it stands and which tags it refines, or
 //! why the set is refused.
+#![tactic(auto)]
+
 ghost use Rattle.std.specs.Prelude.{◌≡◌, length};
 ghost use Rattle.packs.specs.Printed.{max_tags, max_rows, max_slots, room};
 
 use packs::first::{MAX_BYTES, MAX_TAGS, put_first};
 use packs::pack::{MAX_ROWS, MAX_SLOTS, ROOM, put_pack_of};
 use sets::pack::{NextPack, PackPlace, next_pack};
+use std::io;
+use std::io::Write;
+use streams::read_full;
 
 // One byte more than the most that is read.
 const INPUT: usize = MAX_BYTES + 1;
@@ -47,7 +52,13 @@ fn room_for_text() -> [u8; ROOM]
 }
 
 // So many packs in turn, each written before the next is read.
-fn write_packs(count: usize, set: &[u8], tags: &[u32], out: &mut [u8]) {
+fn write_packs<W: Write>(
+    stream: &mut W,
+    count: usize,
+    set: &[u8],
+    tags: &[u32],
+    out: &mut [u8],
+) -> io::Result<()> {
     let mut deviations = room_for_deviations();
     let mut correlations = room_for_correlations();
     let mut states = room_for_states();
@@ -56,7 +67,7 @@ fn write_packs(count: usize, set: &[u8], tags: &[u32], out: &mut [u8]) {
     while 0 < left {
         let next = next_pack(set, before);
         let NextPack::Pack(place) = next else {
-            return;
+            return Ok(());
         };
         let length = put_pack_of(
             set,
@@ -68,19 +79,26 @@ fn write_packs(count: usize, set: &[u8], tags: &[u32], out: &mut [u8]) {
             0,
             out,
         );
-        io::write_all(libc::STDOUT_FILENO, &out[..length]);
+        stream.write_all(&out[..length])?;
         before = place;
         left -= 1;
     }
+    Ok(())
 }
 
-fn main() {
+fn main(rt: HostRuntime) -> io::Result<()> {
     let mut input = room_for_input();
     let mut tags = room_for_tags();
     let mut out = room_for_text();
-    let count = io::read_full(libc::STDIN_FILENO, &mut input);
+    let count = read_full(&mut rt.stdin(), &mut input)?;
     let begun = put_first(&input[..count], &mut tags, 0, &mut out);
     let behind = begun.behind;
-    io::write_all(libc::STDOUT_FILENO, &out[..behind]);
-    write_packs(begun.packs, &input[..count], &tags, &mut out);
+    rt.stdout().write_all(&out[..behind])?;
+    write_packs(
+        &mut rt.stdout(),
+        begun.packs,
+        &input[..count],
+        &tags,
+        &mut out,
+    )
 }

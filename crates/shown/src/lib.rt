@@ -1,4 +1,5 @@
 //! What stands behind a reply: bytes, the lines of a pack, and whether lent memory was touched, a list of tags too.
+#![tactic(auto)]
 pub mod bytes;
 pub mod lines;
 pub mod pack;

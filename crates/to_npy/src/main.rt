@@ -1,8 +1,13 @@
 //! Reads a pack from standard input and writes its matrix to standard output as a .npy file, or to standard error why
 //! there is none.
+#![tactic(auto)]
+
 use convert::file::{ROOM, npy_of_pack};
 use convert::stream::Streamed;
 use packs::first::MAX_BYTES;
+use std::io;
+use std::io::Write;
+use streams::read_full;
 
 // One byte more than the most that is read.
 const INPUT: usize = MAX_BYTES + 1;
@@ -16,17 +21,13 @@ fn room_for_file() -> [u8; ROOM] {
     [0; ROOM]
 }
 
-fn main() {
+fn main(rt: HostRuntime) -> io::Result<()> {
     let mut input = room_for_input();
     let mut out = room_for_file();
-    let count = io::read_full(libc::STDIN_FILENO, &mut input);
+    let count = read_full(&mut rt.stdin(), &mut input)?;
     let streamed = npy_of_pack(&input[..count], &mut out);
     match streamed {
-        Streamed::Output(length) => {
-            io::write_all(libc::STDOUT_FILENO, &out[..length]);
-        }
-        Streamed::Errors(length) => {
-            io::write_all(libc::STDERR_FILENO, &out[..length]);
-        }
+        Streamed::Output(length) => rt.stdout().write_all(&out[..length]),
+        Streamed::Errors(length) => rt.stderr().write_all(&out[..length]),
     }
 }

@@ -1,2 +1,3 @@
 //! Which bytes the program `why` prints for which input.
+#![tactic(auto)]
 pub mod print;

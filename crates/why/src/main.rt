@@ -1,5 +1,10 @@
 //! Reads one pack from standard input and prints why it is refused, or where its parts stand.
+#![tactic(auto)]
+
 use answers::Written;
+use std::io;
+use std::io::Write;
+use streams::read_full;
 use told::print::{ROOM, print_why};
 
 // One byte more than the most that is read.
@@ -14,13 +19,13 @@ fn room_for_text() -> [u8; ROOM] {
     [0; ROOM]
 }
 
-fn main() {
+fn main(rt: HostRuntime) -> io::Result<()> {
     let mut input = room_for_input();
     let mut out = room_for_text();
-    let count = io::read_full(libc::STDIN_FILENO, &mut input);
+    let count = read_full(&mut rt.stdin(), &mut input)?;
     let printed = print_why(&input[..count], &mut out);
     let Written::Done(length) = printed else {
-        return;
+        return Ok(());
     };
-    io::write_all(libc::STDOUT_FILENO, &out[..length]);
+    rt.stdout().write_all(&out[..length])
 }

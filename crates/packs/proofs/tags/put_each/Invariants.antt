@@ -1,0 +1,16 @@
+use mathlib.Core.Path.{refl}
+use Prim.Native.Nat.{◌-◌}
+use native.Mathlib.Numerals.{add-one}
+use native.Mathlib.Omega.{arith}
+use borrow.Author.Rules.{rules}
+use lib.ListN.{length, drop, drop_of_length-le}
+use lib.Seq.{drop-cons}
+use Rattle.text.proofs.Pieces.{Rest, rest_all, rest_more, rest-done}
+use Rattle.lines.specs.Lines.{numbers}
+use Rattle.packs.proofs.tags.put_each.Given as goal
+
+abbrev pub invariant-loop-i : goal.invariant-loop-i
+invariant-loop-i l = Rest (numbers (drop l.i l.tags)) l.next l.out (numbers l.tags) l.at l.initial.out
+
+abbrev pub decreases-loop-i : goal.decreases-loop-i
+decreases-loop-i l = length l.tags - l.i

@@ -1,0 +1,43 @@
+-- `fields::list_of` meets its contract: the list has its part of the words.
+use mathlib.Core.Path.{◌≡◌}
+use mathlib.Core.List.{List}
+use Prim.Native.Nat.{ℕ, ◌≤◌, min}
+use native.Mathlib.Omega.{arith}
+use lib.ListN.{length}
+use Rattle.requests.specs.declared.fields.Part.{Part}
+use Rattle.requests.specs.Fields.{part_of, list_of, words_of}
+use Rattle.requests.proofs.Parts.{part-ordered, part-listed}
+use Rattle.requests.proofs.fields.list_of.Goals as goal
+use Rattle.requests.proofs.fields.list_of.Goals.{After-within_words-end}
+
+-- where the part starts, and where it ends
+start : (c : After-within_words-end) → let a = c.args in
+    c.within_words-start.result ≡ min (part_of a.letter).start (length a.words.now)
+start c = rw c.part_of-part.ensures at c.within_words-start.ensures.value
+
+end : (c : After-within_words-end) → let a = c.args in
+    c.within_words-end.result ≡ min (part_of a.letter).end (length a.words.now)
+end c = rw c.part_of-part.ensures at c.within_words-end.ensures.value
+
+ordered : (c : After-within_words-end) → c.within_words-start.result ≤ c.within_words-end.result
+ordered c = omega (arith, start c, end c, part-ordered c.args.letter)
+
+pub slice_bounds-list-count : goal.slice_bounds-list-count
+slice_bounds-list-count c = ordered (goal.at.slice_bounds-list-count c).After-within_words-end
+
+pub slice_bounds-list-start : goal.slice_bounds-list-start
+slice_bounds-list-start c = ordered (goal.at.slice_bounds-list-start c).After-within_words-end
+
+pub returns-clause-value : goal.returns-clause-value
+unfolding list_of words_of
+returns-clause-value c =
+    let w = (goal.at.returns-clause-value c).After-within_words-end in
+    let a = c.args in
+    (part-listed (part_of a.letter) (part-ordered a.letter) a.words.now (start w) (end w) a.line.now a.at (rw w.part_of-part.ensures at (c.list.ensures.value, c.list.ensures.room_after))).0
+
+pub returns-clause-words_after : goal.returns-clause-words_after
+unfolding list_of words_of
+returns-clause-words_after c =
+    let w = (goal.at.returns-clause-words_after c).After-within_words-end in
+    let a = c.args in
+    (part-listed (part_of a.letter) (part-ordered a.letter) a.words.now (start w) (end w) a.line.now a.at (rw w.part_of-part.ensures at (c.list.ensures.value, c.list.ensures.room_after))).1

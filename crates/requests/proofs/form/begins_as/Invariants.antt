@@ -1,0 +1,14 @@
+use mathlib.Core.Path.{◌≡◌, refl, sym, ◌∙◌}
+use Prim.Native.Nat.{◌-◌}
+use native.Mathlib.Omega.{arith}
+use borrow.Author.Rules.{rules}
+use lib.ListN.{length, drop}
+use Rattle.requests.specs.Form.{begins_as, begins_from}
+use Rattle.requests.proofs.Begins.{begun-field, begun-other, begun_more, begun_all}
+use Rattle.requests.proofs.form.begins_as.Given as goal
+
+abbrev pub invariant-loop-i : goal.invariant-loop-i
+invariant-loop-i l = begins_from l.form l.i (drop l.i l.line) ≡ begins_as l.form l.line
+
+abbrev pub decreases-loop-i : goal.decreases-loop-i
+decreases-loop-i l = length l.line - l.i

@@ -1,0 +1,14 @@
+use mathlib.Core.Path.{◌≡◌, refl, sym, ◌∙◌}
+use Prim.Native.Nat.{◌-◌, ◌≤◌}
+use native.Mathlib.Omega.{arith}
+use borrow.Author.Rules.{rules}
+use Rattle.replies.specs.Places.{bad_request}
+use Rattle.requests.specs.Form.{form_of, first_from}
+use Rattle.requests.proofs.Begins.{first-here, first-behind}
+use Rattle.requests.proofs.form.form_of.Given as goal
+
+abbrev pub invariant-loop-form : goal.invariant-loop-form
+invariant-loop-form l = (l.form ≤ bad_request) × (first_from (bad_request - l.form) l.form l.line ≡ form_of l.line)
+
+abbrev pub decreases-loop-form : goal.decreases-loop-form
+decreases-loop-form l = bad_request - l.form

@@ -1,0 +1,14 @@
+-- `request::read_request` meets its contract. The invariant: what is left to read makes the same request.
+use mathlib.Core.Path.{◌∙◌}
+use Prim.Native.Nat.{◌-◌}
+use native.Mathlib.Omega.{arith}
+use Rattle.requests.proofs.Asked.{Reading, reading-none, reading-more, reading-bad, reading-all}
+use Rattle.requests.proofs.request.read_request.Goals as goal
+
+pub loop-i-init : goal.loop-i-init
+loop-i-init c = reading-none c.form_of-form.ensures c.unfilled-request.ensures
+
+pub loop-i-preserved : goal.loop-i-preserved
+loop-i-preserved c =
+    reading-more c.loop-i.invariant (omega arith) c.letter-letter.ensures c.field-read.ensures c.in-Read.is c.with-request.ensures
+    c.line-1.given c.words-1.given

@@ -1,0 +1,12 @@
+use mathlib.Core.Path.{◌∙◌}
+use Prim.Native.Nat.{◌-◌}
+use native.Mathlib.Omega.{arith}
+use borrow.Author.Rules.{rules}
+use Rattle.requests.proofs.Asked.{Reading, reading-none, reading-more, reading-bad, reading-all}
+use Rattle.requests.proofs.request.read_request.Given as goal
+
+abbrev pub invariant-loop-i : goal.invariant-loop-i
+invariant-loop-i l = Reading l.initial.line l.initial.words l.form l.line l.words l.request l.at l.i
+
+abbrev pub decreases-loop-i : goal.decreases-loop-i
+decreases-loop-i l = 24 - l.i

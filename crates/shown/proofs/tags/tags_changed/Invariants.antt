@@ -1,0 +1,13 @@
+use mathlib.Core.Path.{refl}
+use Prim.Native.Nat.{◌-◌}
+use native.Mathlib.Omega.{arith}
+use borrow.Author.Rules.{rules}
+use Rattle.shown.specs.Tags.{tag_mark}
+use Rattle.text.proofs.Marked.{Passed, passed-within, passed-more, passed-found, passed-done}
+use Rattle.shown.proofs.tags.tags_changed.Given as goal
+
+abbrev pub invariant-loop-i : goal.invariant-loop-i
+invariant-loop-i l = Passed tag_mark l.from l.count l.tags l.end l.i
+
+abbrev pub decreases-loop-i : goal.decreases-loop-i
+decreases-loop-i l = l.end - l.i
