@@ -33,11 +33,15 @@ unfolding list_of words_of
 returns-clause-value c =
     let w = (goal.at.returns-clause-value c).After-within_words-end in
     let a = c.args in
-    (part-listed (part_of a.letter) (part-ordered a.letter) a.words.now (start w) (end w) a.line.now a.at (rw w.part_of-part.ensures at (c.list.ensures.value, c.list.ensures.room_after))).0
+    let stored = rw w.part_of-part.ensures at c.list.ensures.value in
+    let left = rw w.part_of-part.ensures at c.list.ensures.room_after in
+    (part-listed (part_of a.letter) (part-ordered a.letter) a.words.now (start w) (end w) a.line.now a.at (stored, left)).0
 
 pub returns-clause-words_after : goal.returns-clause-words_after
 unfolding list_of words_of
 returns-clause-words_after c =
     let w = (goal.at.returns-clause-words_after c).After-within_words-end in
     let a = c.args in
-    (part-listed (part_of a.letter) (part-ordered a.letter) a.words.now (start w) (end w) a.line.now a.at (rw w.part_of-part.ensures at (c.list.ensures.value, c.list.ensures.room_after))).1
+    let stored = rw w.part_of-part.ensures at c.list.ensures.value in
+    let left = rw w.part_of-part.ensures at c.list.ensures.room_after in
+    (part-listed (part_of a.letter) (part-ordered a.letter) a.words.now (start w) (end w) a.line.now a.at (stored, left)).1

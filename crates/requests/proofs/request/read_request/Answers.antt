@@ -10,5 +10,6 @@ loop-i-init c = reading-none c.form_of-form.ensures c.unfilled-request.ensures
 
 pub loop-i-preserved : goal.loop-i-preserved
 loop-i-preserved c =
-    reading-more c.loop-i.invariant (omega arith) c.letter-letter.ensures c.field-read.ensures c.in-Read.is c.with-request.ensures
-    c.line-1.given c.words-1.given
+    let f = c.field-read.ensures in
+    reading-more c.loop-i.invariant c.loop-i-test.true c.letter-letter.ensures (f.value, (f.line_after, f.words_after))
+    c.in-Read.is c.with-request.ensures c.field-read.auto.line c.field-read.auto.words

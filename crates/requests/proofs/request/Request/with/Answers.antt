@@ -6,26 +6,30 @@ use borrow.Author.Tests.{ne_eqb}
 use Rattle.replies.proofs.Letters.{neither}
 use Rattle.requests.specs.Request.{with}
 use Rattle.requests.proofs.Letters.{one_of_two}
+use Prim.Native.Nat.{ℕ}
+use types.Run.{OneOf}
+use mathlib.Core.List.{[], ◌∷◌}
+use Rattle.requests.specs.declared.request.Request.{Request}
 use Rattle.requests.proofs.request.Request.with.Goals as goal
-use Rattle.requests.proofs.request.Request.with.Goals.{In_default}
 
 -- a letter that says nothing
-other : (c : In_default) → let a = c.args in
-    (a.letter ≡ 0x57 → ⊥) → (a.letter ≡ 0x58 → ⊥) → a.self ≡ with a.letter a.value a.self
+other : (l value : ℕ) (self : Request)
+    → (l ≡ 0x4e → ⊥) → (OneOf (0x49 ∷ 0x50 ∷ []) l → ⊥) → (l ≡ 0x59 → ⊥) → (OneOf (0x48 ∷ 0x4a ∷ []) l → ⊥)
+    → (OneOf (0x47 ∷ 0x4c ∷ 0x52 ∷ []) l → ⊥) → (OneOf (0x44 ∷ 0x53 ∷ []) l → ⊥)
+    → (OneOf (0x43 ∷ 0x45 ∷ []) l → ⊥) → (OneOf (0x46 ∷ 0x54 ∷ []) l → ⊥)
+    → (l ≡ 0x57 → ⊥) → (l ≡ 0x58 → ⊥) → self ≡ with l value self
 unfolding with
-other c w x =
-    let l = c.args.letter in
-    let r = c.in_default-1.rest in
+other l value self n v y g r d c s w x =
     rw (
-      ne_eqb l 0x4e r.0.0.0.0.0.0.0.1,
-      neither _ _ l r.0.0.0.0.0.0.1,
-      ne_eqb l 0x59 r.0.0.0.0.0.1,
-      neither _ _ l r.0.0.0.0.1,
-      ne_eqb l 0x47 (λ e. r.0.0.0.1 (inl e)),
-      neither _ _ l (λ o. r.0.0.0.1 (inr o)),
-      neither _ _ l r.0.0.1,
-      neither _ _ l r.0.1,
-      neither _ _ l r.1,
+      ne_eqb l 0x4e n,
+      neither _ _ l v,
+      ne_eqb l 0x59 y,
+      neither _ _ l g,
+      ne_eqb l 0x47 (λ e. r (inl e)),
+      neither _ _ l (λ o. r (inr o)),
+      neither _ _ l d,
+      neither _ _ l c,
+      neither _ _ l s,
       ne_eqb l 0x57 w,
       ne_eqb l 0x58 x,
     )
@@ -59,10 +63,18 @@ unfolding with
 returns-in-70 c = ⊎_elim (λ e. rw e) (λ e. rw e) c.in-70.is
 
 pub returns-in_default : goal.returns-in_default
-returns-in_default c = other (goal.at.returns-in_default c).In_default (λ e. omega arith) (λ e. omega arith)
+returns-in_default c =
+    let a = c.args in
+    let r = c.in_default.in_default-own.rest in
+    other a.letter a.value a.self r.0.0.0.0.0.0.0.1 r.0.0.0.0.0.0.1 r.0.0.0.0.0.1 r.0.0.0.0.1 r.0.0.0.1 r.0.0.1 r.0.1 r.1
+    (λ e. omega arith) (λ e. omega arith)
 
 pub returns-in_default-2 : goal.returns-in_default-2
-returns-in_default-2 c = other (goal.at.returns-in_default-2 c).In_default (λ e. omega arith) (λ e. omega arith)
+returns-in_default-2 c =
+    let a = c.args in
+    let r = c.in_default.in_default-own.rest in
+    other a.letter a.value a.self r.0.0.0.0.0.0.0.1 r.0.0.0.0.0.0.1 r.0.0.0.0.0.1 r.0.0.0.0.1 r.0.0.0.1 r.0.0.1 r.0.1 r.1
+    (λ e. omega arith) (λ e. omega arith)
 
 pub returns-in-73 : goal.returns-in-73
 unfolding with
