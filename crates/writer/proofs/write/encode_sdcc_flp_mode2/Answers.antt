@@ -40,14 +40,14 @@ abbrev plan : Start → Plan
 plan s = pack_plan (length (ds s)) (cs s) (clen s)
 
 -- where there is a plan, no rule refuses, it is that of what is sent, and the slots are written by it
-told : (c : In-Done) → let s = c.before.before.before.before.before.before.before.before.before.before.before in ((rules s).number ≡ 0) × (c.in-Done.plan ≡ plan s)
+told : (c : In-Done) → let s = c.before.before.before.before.before.before.before.before.before in ((rules s).number ≡ 0) × (c.in-Done.plan ≡ plan s)
 told c =
-    let s = c.before.before.before.before.before.before.before.before.before.before.before in found-tells (rules s) (plan s) (sym (ap plan_listed c.in-Done.is) ∙ c.write_slots-slots.ensures.0)
+    let s = c.before.before.before.before.before.before.before.before.before in found-tells (rules s) (plan s) (sym (ap plan_listed c.in-Done.is) ∙ c.write_slots-slots.ensures.0)
 
 left : (c : In-Done)
-    → let s = c.before.before.before.before.before.before.before.before.before.before.before in c.write_slots-slots.new.1.1.1.0 ≡ slots_over (cs s) (plan s) (out s)
+    → let s = c.before.before.before.before.before.before.before.before.before in c.write_slots-slots.new.out ≡ slots_over (cs s) (plan s) (out s)
 left c =
-    let s = c.before.before.before.before.before.before.before.before.before.before.before in c.write_slots-slots.ensures.1 ∙ ap (λ (o : Outcome Plan). slots_left o (cs s) (out s)) (ap plan_listed c.in-Done.is ∙ ap found (told c).1)
+    let s = c.before.before.before.before.before.before.before.before.before in c.write_slots-slots.ensures.1 ∙ ap (λ (o : Outcome Plan). slots_left o (cs s) (out s)) (ap plan_listed c.in-Done.is ∙ ap found (told c).1)
 
 pub returns-in-Refused : goal.returns-in-Refused
 returns-in-Refused c =
