@@ -1,0 +1,55 @@
+-- `round_trip::round_trip` meets its contract.
+use mathlib.Core.Path.{sym, ap, ◌∙◌}
+use mathlib.Core.List.{List}
+use Prim.Native.Nat.{ℕ}
+use Rattle.answers.specs.Listed.{written}
+use Rattle.answers.proofs.OneToOne.{refused-not-done}
+use Rattle.reader.specs.Listed.{read_listed}
+use Rattle.trip.specs.Tripped.{Lent}
+use Rattle.trip.proofs.Tripped.{Ran, comparable, write-refused, read-refused, compared}
+use Rattle.trip.proofs.Wrote.{Wrote, pack-long}
+use Rattle.trip.proofs.round_trip.round_trip.Goals as goal
+use Rattle.trip.proofs.round_trip.round_trip.Goals.{After-decode_sdcc_flp-read, In-Done}
+
+abbrev count : (c : In-Done) → ℕ
+count c = c.in-Done.n
+
+abbrev packed : (c : In-Done) → List ℕ
+packed c = c.encode_sdcc_flp_mode2-written.last.1.1.1.0
+
+is-written : (c : In-Done) → Wrote c.args.deviations.now c.args.correlations.now c.args.clen c.args.pack.now (packed c) (count c)
+is-written c =
+    let h = ap written c.in-Done.is in
+    record { answers = sym h ∙ c.encode_sdcc_flp_mode2-written.ensures.0; leaves = rw h at c.encode_sdcc_flp_mode2-written.ensures.1 }
+
+abbrev lent : (c : After-decode_sdcc_flp-read) → Lent
+lent c = record { pack = c.before.args.pack.now; deviations = c.before.args.deviations-back.now; correlations = c.before.args.correlations-back.now; states = c.before.args.states.now }
+
+abbrev left : (c : After-decode_sdcc_flp-read) → Lent
+left c = record { pack = packed c{-In-Done-}; deviations = c.decode_sdcc_flp-read.new.deviations; correlations = c.decode_sdcc_flp-read.new.correlations; states = c.decode_sdcc_flp-read.new.states }
+
+ran : (c : After-decode_sdcc_flp-read) → Ran c.before.args.deviations.now c.before.args.correlations.now c.before.args.clen (lent c) (left c) (count c{-In-Done-}) (read_listed c.decode_sdcc_flp-read.result)
+ran c =
+    record {
+      wrote = is-written c{-In-Done-};
+      read = c.decode_sdcc_flp-read.ensures.0;
+      deviations = c.decode_sdcc_flp-read.ensures.1;
+      correlations = c.decode_sdcc_flp-read.ensures.2;
+      states = c.decode_sdcc_flp-read.ensures.3;
+    }
+
+pub returns-in_default : goal.returns-in_default
+returns-in_default c =
+    let h = ap written c.in_default.is in
+    write-refused _ _ _ _ c.in_default.field-0 (sym h ∙ c.encode_sdcc_flp_mode2-written.ensures.0) (rw h at c.encode_sdcc_flp_mode2-written.ensures.1)
+
+pub returns-in_default-read : goal.returns-in_default-read
+returns-in_default-read c =
+    let r = (goal.at.returns-in_default-read c).After-decode_sdcc_flp-read in read-refused (ran r) (rw c.in_default-read.is (refused-not-done c.in_default-read.field-0))
+
+pub same_numbers-requires : goal.same_numbers-requires
+same_numbers-requires c = comparable (ran (goal.at.same_numbers-requires c).After-decode_sdcc_flp-arg-1) (rw c.in-Done-read.is)
+
+pub returns : goal.returns
+returns c =
+    compared (ran (goal.at.returns c).After-decode_sdcc_flp-arg-1) (rw c.in-Done-read.is) c.same_numbers.ensures
