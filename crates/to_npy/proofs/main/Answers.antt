@@ -10,11 +10,11 @@ slice_bounds-out-end c = omega (arith, output-within _ c.npy_of_pack-streamed.en
 
 pub slice_bounds-write_all-end : goal.slice_bounds-write_all-end
 slice_bounds-write_all-end c =
-    sym (length-take-le c.in-Output.length c.npy_of_pack-streamed.new.out (array-share-prefix-out (goal.at.slice_bounds-write_all-end c).After-write_all-arg-1))
+    sym (length-take-le c.in-Output.length c.npy_of_pack-streamed.new.out (omega (arith, output-within _ c.npy_of_pack-streamed.ensures c.in-Output.is)))
 
 pub slice_bounds-out-end-in-Errors : goal.slice_bounds-out-end-in-Errors
 slice_bounds-out-end-in-Errors c = omega (arith, errors-within _ c.npy_of_pack-streamed.ensures c.in-Errors.is)
 
 pub slice_bounds-write_all-end-in-Errors : goal.slice_bounds-write_all-end-in-Errors
 slice_bounds-write_all-end-in-Errors c =
-    sym (length-take-le c.in-Errors.length c.npy_of_pack-streamed.new.out (array-share-prefix-out-2 (goal.at.slice_bounds-write_all-end-in-Errors c).After-write_all-arg-in-Errors-1))
+    sym (length-take-le c.in-Errors.length c.npy_of_pack-streamed.new.out (omega (arith, errors-within _ c.npy_of_pack-streamed.ensures c.in-Errors.is)))

@@ -45,9 +45,9 @@ done-read c =
     c.decode_imapb-read.ensures ∙ ap (imapb_read (size c.before.before.before.before)) (code_is c.before.before.before.before)
     ∙ code_read (size c.before.before.before.before) c.args.sent c.requires.0 c.requires.1
 
--- the `else` leaves the other three cases
-no_other : (d : DecodedImapb) {x : Float} → d ≡ Value x → OneOf (1 ∷ 2 ∷ 3 ∷ []) (tag_of the_type d) → ⊥
-no_other d e k = miss (1 ∷ 2 ∷ 3 ∷ []) 0 tt (rw e at k)
+-- what an answer that reads v tells of the enum
+told : {r : ImapbRead} {v : DecodedImapb} → imapb_listed r ≡ reads v → {d : DecodedImapb} → r ≡ Done d → d ≡ v
+told h e = cc
 
 -- the number that it holds
 held : {x y : Float} → Value x ≡ Value y → x ≡ y
@@ -59,7 +59,7 @@ is_number c =
 
 pub returns-in_default-decoded : goal.returns-in_default-decoded
 returns-in_default-decoded c =
-    absurd (no_other c.in-Done-read.decoded (told (done-read (goal.at.returns-in_default-decoded c).After-decode_imapb-read) c.in-Done-read.is) c.in_default-decoded.in_default-decoded-own.keys2)
+    absurd (c.in_default-decoded.not-Value _ (told (done-read (goal.at.returns-in_default-decoded c).After-decode_imapb-read) c.in-Done-read.is))
 
 pub float_to_bits-result : goal.float_to_bits-result
 float_to_bits-result c = let e = (goal.at.float_to_bits-result c).After-encode_imapb in rw (is_number (goal.at.float_to_bits-result c).In-Value, value-number (size e) (number e)) tt

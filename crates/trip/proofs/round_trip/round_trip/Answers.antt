@@ -9,34 +9,40 @@ use Rattle.trip.specs.Tripped.{Lent}
 use Rattle.trip.proofs.Tripped.{Ran, comparable, write-refused, read-refused, compared}
 use Rattle.trip.proofs.Wrote.{Wrote, pack-long}
 use Rattle.trip.proofs.round_trip.round_trip.Goals as goal
-use Rattle.trip.proofs.round_trip.round_trip.Goals.{After-decode_sdcc_flp-read, In-Done}
+use Rattle.trip.proofs.round_trip.round_trip.Goals.{After-decode_sdcc_flp-read}
 
-abbrev count : (c : In-Done) → ℕ
-count c = c.in-Done.n
-
-abbrev packed : (c : In-Done) → List ℕ
-packed c = c.encode_sdcc_flp_mode2-written.last.1.1.1.0
-
-is-written : (c : In-Done) → Wrote c.args.deviations.now c.args.correlations.now c.args.clen c.args.pack.now (packed c) (count c)
+-- what is known once it is written
+is-written : (c : After-decode_sdcc_flp-read)
+    → Wrote c.args.deviations.now c.args.correlations.now c.args.clen c.args.pack.now c.encode_sdcc_flp_mode2-written.new.out c.in-Done.n
 is-written c =
     let h = ap written c.in-Done.is in
-    record { answers = sym h ∙ c.encode_sdcc_flp_mode2-written.ensures.0; leaves = rw h at c.encode_sdcc_flp_mode2-written.ensures.1 }
+    let e = c.encode_sdcc_flp_mode2-written.ensures in
+    record { answers = sym h ∙ e.0; leaves = rw h at e.1 }
 
-abbrev lent : (c : After-decode_sdcc_flp-read) → Lent
-lent c = record { pack = c.before.args.pack.now; deviations = c.before.args.deviations-back.now; correlations = c.before.args.correlations-back.now; states = c.before.args.states.now }
-
-abbrev left : (c : After-decode_sdcc_flp-read) → Lent
-left c = record { pack = packed c{-In-Done-}; deviations = c.decode_sdcc_flp-read.new.deviations; correlations = c.decode_sdcc_flp-read.new.correlations; states = c.decode_sdcc_flp-read.new.states }
-
-ran : (c : After-decode_sdcc_flp-read) → Ran c.before.args.deviations.now c.before.args.correlations.now c.before.args.clen (lent c) (left c) (count c{-In-Done-}) (read_listed c.decode_sdcc_flp-read.result)
-ran c =
+-- and read
+abbrev lent : After-decode_sdcc_flp-read → Lent
+lent c =
     record {
-      wrote = is-written c{-In-Done-};
-      read = c.decode_sdcc_flp-read.ensures.0;
-      deviations = c.decode_sdcc_flp-read.ensures.1;
-      correlations = c.decode_sdcc_flp-read.ensures.2;
-      states = c.decode_sdcc_flp-read.ensures.3;
+      pack = c.args.pack.now;
+      deviations = c.args.deviations_back.now;
+      correlations = c.args.correlations_back.now;
+      states = c.args.states.now;
     }
+
+abbrev left : After-decode_sdcc_flp-read → Lent
+left c =
+    record {
+      pack = c.encode_sdcc_flp_mode2-written.new.out;
+      deviations = c.decode_sdcc_flp-read.new.deviations;
+      correlations = c.decode_sdcc_flp-read.new.correlations;
+      states = c.decode_sdcc_flp-read.new.states;
+    }
+
+ran : (c : After-decode_sdcc_flp-read)
+    → Ran c.args.deviations.now c.args.correlations.now c.args.clen (lent c) (left c) c.in-Done.n (read_listed c.decode_sdcc_flp-read.result)
+ran c =
+    let e = c.decode_sdcc_flp-read.ensures in
+    record { wrote = is-written c; read = e.0; deviations = e.1; correlations = e.2; states = e.3 }
 
 pub returns-in_default : goal.returns-in_default
 returns-in_default c =
@@ -48,8 +54,8 @@ returns-in_default-read c =
     let r = (goal.at.returns-in_default-read c).After-decode_sdcc_flp-read in read-refused (ran r) (rw c.in_default-read.is (refused-not-done c.in_default-read.field-0))
 
 pub same_numbers-requires : goal.same_numbers-requires
-same_numbers-requires c = comparable (ran (goal.at.same_numbers-requires c).After-decode_sdcc_flp-arg-1) (rw c.in-Done-read.is)
+same_numbers-requires c = comparable (ran (goal.at.same_numbers-requires c).After-decode_sdcc_flp-read) (rw c.in-Done-read.is)
 
 pub returns : goal.returns
 returns c =
-    compared (ran (goal.at.returns c).After-decode_sdcc_flp-arg-1) (rw c.in-Done-read.is) c.same_numbers.ensures
+    compared (ran (goal.at.returns c).After-decode_sdcc_flp-read) (rw c.in-Done-read.is) c.same_numbers.ensures
