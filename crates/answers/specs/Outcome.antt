@@ -1,5 +1,5 @@
 -- What was asked for, or the answer of the rule that refuses it.
-use Rattle.std.specs.Prelude.{Bool, eqb}
+use Rattle.std.specs.Prelude.{eqb}
 use Rattle.answers.specs.Table.{Answer, pick}
 
 pub data Outcome (A : Type 0) : Type 0 where

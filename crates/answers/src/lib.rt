@@ -1,4 +1,6 @@
 //! Document 01's table of answers: the refusals, and the answer of whatever writes into lent memory.
+#![tactic(auto)]
+
 pub mod row;
 
 // Rows 1 to 12, in the table's order. A binary64 is carried as its bits, so that a refused NaN comes back bit for bit.

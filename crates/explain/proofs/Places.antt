@@ -1,6 +1,6 @@
 -- The place of the rule that refuses a pack, as the code finds it.
 -- Assumes nothing.
-use mathlib.Core.Path.{◌≡◌, refl, sym, ◌∙◌}
+use mathlib.Core.Path.{◌≡◌, refl, sym}
 use mathlib.Core.Bool.{Bool, not}
 use mathlib.Core.List.{List, [], ◌∷◌}
 use mathlib.Core.Logic.{◌⊎◌, ⊎_elim}
@@ -20,7 +20,7 @@ use Rattle.elements.specs.declared.head.Head.{Head}
 use Rattle.elements.specs.Elements.{head_of, deviations_at, deviation_count, codes_at, present_count, end_at}
 use Rattle.elements.specs.Formats.{deviation_format, code_format}
 use Rattle.rules.specs.Named.{rank, rule_of, pack_ruled}
-use Rattle.rules.proofs.Refused.{same_rank, refused-by}
+use Rattle.rules.proofs.Refused.{refused-by}
 use Rattle.explain.specs.Explained.{place_of}
 use Rattle.explain.specs.Found.{Sized, stopped_at}
 use Rattle.explain.proofs.Ends.{head-passes, fit-passes, placed, codes-start}

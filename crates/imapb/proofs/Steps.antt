@@ -10,7 +10,7 @@ use native.Mathlib.Omega.{arith}
 use lib.Dec.{T, leb, ltb, eqb, leb→le, ltb→lt}
 use lib.IntN.{ℤ, pos, negsuc}
 use lib.Pow.{pow_pos, pow_mono, pow-lt, shl_lt}
-use lib.Ieee.{Float, fin, Format, prec, emax, low, up, down, size, fits}
+use lib.Ieee.{Float, fin, Format, prec, emax, low, up, down, fits}
 use lib.Ieee.Digits.{size-lt}
 use lib.Ieee.Fits.{and_l, and_r, down_pos, two}
 use lib.Ieee.Nearest.{closest}

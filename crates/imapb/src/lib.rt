@@ -1,6 +1,7 @@
 //! ST 1201.5 IMAPB for the range -1 to 1: mapped values and special codes of 1 to 8 bytes. What the length decides
 //! stands here.
 #![tactic(auto)]
+
 pub mod decode;
 pub mod encode;
 pub mod mapping;

@@ -1,6 +1,7 @@
 //! The layout of an SDCC-FLP pack: its type and limits, Parse Control, the size check, peek, and the slots of the
 //! triangle.
 #![tactic(auto)]
+
 pub mod control;
 pub mod header;
 pub mod pack;

@@ -1,5 +1,5 @@
 -- Document 02, K8: a matrix as a.npy file, deviations on the diagonal, correlations on both sides.
-use Rattle.std.specs.Prelude.{ℕ, min, max, ◌+◌, ◌-◌, ◌*◌, List, ◌++◌, eqb, get_or}
+use Rattle.std.specs.Prelude.{ℕ, min, max, ◌+◌, ◌*◌, List, ◌++◌, eqb, get_or}
 use Rattle.answers.specs.Table.{pick}
 use Rattle.answers.specs.Lent.{joined}
 use Rattle.numbers.specs.Words.{low_bytes_of}

@@ -1,4 +1,5 @@
 //! A matrix as a NumPy .npy file.
 #![tactic(auto)]
+
 pub mod export;
 mod write;

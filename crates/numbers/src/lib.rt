@@ -1,5 +1,6 @@
 //! BER-OID numbers, BER lengths, words of bytes, and conversions between binary32, binary64 and whole numbers.
 #![tactic(auto)]
+
 pub mod ber;
 pub mod ber_oid;
 pub mod conversions;

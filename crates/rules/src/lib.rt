@@ -1,5 +1,6 @@
 //! The rules of a pack in their order, a) to l): everything that can be refused, decided before an entry is written.
 #![tactic(auto)]
+
 pub mod decide;
 pub mod judge;
 pub mod rooms;

@@ -17,7 +17,6 @@ use Rattle.answers.proofs.OneToOne.{refused-not-done}
 use Rattle.layout.specs.declared.size.Peek.{Peek}
 use Rattle.layout.specs.declared.size.Peek.TheVariants as peek
 use Rattle.layout.specs.Size.{peeked}
-use Rattle.sets.specs.declared.item.Item.{Item}
 use Rattle.sets.specs.declared.item.Item.TheVariants.{Read, Faulty}
 use Rattle.sets.specs.declared.pack.PackPlace.{PackPlace}
 use Rattle.sets.specs.declared.pack.NextPack.TheVariants.{Nothing}

@@ -1,5 +1,5 @@
 -- What is promised of a set that is taken: its items join up, and the parts that are handed back are its packs.
-use Rattle.std.specs.Prelude.{ℕ, suc, ◌+◌, ◌-◌, ◌≤◌, ◌<◌, ◌≡◌, List, [], ◌∷◌, ◌++◌, length, take, drop}
+use Rattle.std.specs.Prelude.{ℕ, suc, ◌-◌, ◌≤◌, ◌<◌, ◌≡◌, List, [], ◌∷◌, ◌++◌, length, take, drop}
 use Rattle.answers.specs.Lent.{over}
 use Rattle.layout.specs.Header.{said_size}
 use Rattle.sets.specs.declared.item.Item.{Item}

@@ -1,16 +1,15 @@
 -- A line that is read digit by digit: what a turn of each loop leaves to read.
 -- Assumes nothing.
-use mathlib.Core.Path.{◌≡◌, refl, sym, ap, ◌∙◌}
+use mathlib.Core.Path.{◌≡◌, sym, ◌∙◌}
 use mathlib.Core.List.{List, [], ◌∷◌}
 use mathlib.Core.Logic.{⊎_elim}
-use Prim.Native.Nat.{ℕ, zero, suc, ◌+◌, ◌-◌, ◌*◌, ◌%◌, ◌^◌, ◌≤◌, ◌<◌}
+use Prim.Native.Nat.{ℕ, suc, ◌+◌, ◌*◌, ◌%◌, ◌^◌, ◌≤◌, ◌<◌}
 use native.Mathlib.Numerals.{add-one}
 use native.Mathlib.Omega.{arith}
 use borrow.Author.Tests.{lt-ltb, le-ltb, le-leb, lt-leb}
-use lib.Dec.{ltb, leb}
-use lib.ListN.{length, drop, get_or, get_or-eq_default, drop_of_length-le}
+use lib.Dec.{ltb}
+use lib.ListN.{length, drop, get_or-eq_default, drop_of_length-le}
 use lib.Seq.{drop-cons}
-use Rattle.answers.specs.Table.{pick}
 use Rattle.answers.proofs.Rules.{picked}
 use Rattle.text.specs.declared.numeral.Numeral.{Numeral}
 use Rattle.text.specs.declared.numeral.Numeral.TheVariants.{Read, Malformed}

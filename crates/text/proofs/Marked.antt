@@ -1,6 +1,6 @@
 -- Entries that are looked at one by one for a mark, from a place on.
 -- Assumes nothing.
-use mathlib.Core.Path.{◌≡◌, sym, ◌∙◌}
+use mathlib.Core.Path.{◌≡◌}
 use mathlib.Core.Bool.{true, false}
 use mathlib.Core.List.{List, ◌∷◌}
 use Prim.Native.Nat.{ℕ, ◌+◌, ◌≤◌, ◌<◌, min}
@@ -9,7 +9,7 @@ use native.Mathlib.Omega.{arith}
 use borrow.Author.Tests.{eq-eqb, ne_eqb}
 use lib.ListN.{length, drop, take, get_or, length-take, drop_of_length-le}
 use lib.Seq.{drop-cons, get_or-take}
-use Rattle.text.specs.Marks.{unmarked, unmarked_from}
+use Rattle.text.specs.Marks.{unmarked_from}
 
 -- ---- a loop that has found the mark up to i
 pub record Passed (mark from count : ℕ) (lent : List ℕ) (end i : ℕ) : Type 0 where

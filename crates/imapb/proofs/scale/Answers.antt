@@ -3,7 +3,6 @@ use mathlib.Core.Path.{ap, ◌∙◌}
 use Prim.Native.Nat.{◌-◌}
 use native.Mathlib.Omega.{arith}
 use lib.Ieee.{nan, of_bits}
-use borrow.Author.Rules.{rules}
 use Rattle.imapb.specs.Mapping.{scale_of}
 use Rattle.imapb.proofs.Table.{ruled-at}
 use Rattle.imapb.proofs.scale.Goals as goal

@@ -1,6 +1,5 @@
 -- `mapped::code_at` meets its contract: the low bits of the word that a code ends are the code.
-use Rattle.std.proofs.Common.{◌-◌, ◌*◌, pow_pos, rules}
-use Rattle.codes.proofs.CodesRead.{top-is, mask_fits, code-last}
+use Rattle.codes.proofs.CodesRead.{top-is, code-last}
 use Rattle.codes.proofs.mapped.code_at.Goals as goal
 
 pub returns : goal.returns

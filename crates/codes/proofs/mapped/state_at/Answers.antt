@@ -1,10 +1,10 @@
 -- `mapped::state_at` meets its contract: a code up to the top code is a value, and any other is told by decoding it.
-use Rattle.std.proofs.Common.{◌≡◌, ap, ◌∙◌, rules}
+use Rattle.std.proofs.Common.{◌≡◌, ap, ◌∙◌}
 use native.Mathlib.Nat.{add-sub_cancel_left}
 use Rattle.elements.specs.Elements.{part, state_of}
 use Rattle.imapb.specs.Tables.{imapb_listed, imapb_read}
 use Rattle.imapb.proofs.Law.{reads-value}
-use Rattle.codes.proofs.CodesRead.{top-is, read_as, read-never}
+use Rattle.codes.proofs.CodesRead.{top-is, read_as}
 use Rattle.codes.proofs.mapped.state_at.Goals as goal
 use Rattle.codes.proofs.mapped.state_at.Goals.{After-decode_imapb-read}
 

@@ -1,11 +1,11 @@
 -- `mapped::value_of` meets its contract: nothing above the code of 1 is a value, and every other code is one, no NaN.
-use Rattle.std.proofs.Common.{◌≡◌, sym, arith, rules}
+use Rattle.std.proofs.Common.{◌≡◌, arith}
 use lib.Ieee.{binary64, of_bits, sub, div}
 use Rattle.imapb.specs.Mapping.{value, value_of}
 use Rattle.imapb.proofs.Law.{reads-value}
 use Rattle.imapb.proofs.NoNan.{value-number}
 use Rattle.imapb.proofs.Range.{one-is}
-use Rattle.codes.proofs.CodesRead.{top-is, scale-is, above-bits}
+use Rattle.codes.proofs.CodesRead.{top-is, scale-is}
 use Rattle.codes.proofs.mapped.value_of.Goals as goal
 use Rattle.codes.proofs.mapped.value_of.Goals.{After-nearest}
 

@@ -1,11 +1,11 @@
 -- `states::fill_states` meets its contract: each turn stores what the slot's code was, or that it is absent.
-use Rattle.std.proofs.Common.{◌≡◌, ℕ, ◌+◌, ◌-◌, ◌^◌, ◌<◌, ◌≤◌, true, length, set, sym, ◌∙◌, ⊎_elim, arith, rules}
+use Rattle.std.proofs.Common.{◌≡◌, ℕ, ◌+◌, ◌^◌, ◌<◌, ◌≤◌, true, length, set, sym, ◌∙◌, arith}
 use Rattle.answers.specs.Lent.{tab}
 use Rattle.answers.proofs.Lent.{Front}
-use Rattle.answers.proofs.Tab.{tab-none, tab-room, tab-more, tab-done}
+use Rattle.answers.proofs.Tab.{tab-none, tab-more, tab-done}
 use Rattle.elements.specs.Elements.{present_in, slot_in}
 use Rattle.codes.specs.Fill.{Maps}
-use Rattle.codes.proofs.Counts.{fewer, up_fits, within-fits}
+use Rattle.codes.proofs.Counts.{within-fits}
 use Rattle.codes.proofs.Filled.{code_at, first_code, behind-absent}
 use Rattle.codes.proofs.Told.{code-there, state-is, code-behind, state-absent}
 use Rattle.codes.proofs.states.fill_states.Goals as goal
@@ -55,7 +55,7 @@ overflow_add-next c = let t = (goal.at.overflow_add-next c).Then-is_present in w
 pub loop-k-preserved : goal.loop-k-preserved
 loop-k-preserved c =
     elim c.if-is_present.branch [
-        then-is_present w ↦
+      | then-is_present w ↦
           let t = sym c.is_present.ensures ∙ w.if-is_present.true in
           rw (w.states-is, w.next-is) (told c (state-is c.requires.0 (k c) t (e c) w.state_at.ensures), code-behind c.requires.0 (k c) t (e c))
       | else-is_present w ↦

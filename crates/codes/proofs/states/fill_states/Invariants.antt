@@ -1,12 +1,8 @@
-use Rattle.std.proofs.Common.{◌≡◌, ℕ, ◌+◌, ◌-◌, ◌^◌, ◌<◌, ◌≤◌, true, length, set, sym, ◌∙◌, ⊎_elim, arith, rules}
+use Rattle.std.proofs.Common.{◌≡◌, ◌-◌}
 use Rattle.answers.specs.Lent.{tab}
 use Rattle.answers.proofs.Lent.{Front}
-use Rattle.answers.proofs.Tab.{tab-none, tab-room, tab-more, tab-done}
-use Rattle.elements.specs.Elements.{present_in, slot_in}
-use Rattle.codes.specs.Fill.{Maps}
-use Rattle.codes.proofs.Counts.{fewer, up_fits, within-fits}
-use Rattle.codes.proofs.Filled.{code_at, first_code, behind-absent}
-use Rattle.codes.proofs.Told.{code-there, state-is, code-behind, state-absent}
+use Rattle.elements.specs.Elements.{slot_in}
+use Rattle.codes.proofs.Filled.{code_at}
 use Rattle.codes.proofs.states.fill_states.Given as goal
 
 abbrev pub invariant-loop-k : goal.invariant-loop-k

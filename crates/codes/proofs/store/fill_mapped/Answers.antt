@@ -1,11 +1,11 @@
 -- `store::fill_mapped` meets its contract: where no code exceeds the top code all are values, and otherwise what each was
 -- is told over what the faster pass has left.
-use Rattle.std.proofs.Common.{ℕ, List, sym, ap, ◌∙◌, rules}
+use Rattle.std.proofs.Common.{ℕ, List, sym, ap, ◌∙◌}
 use Rattle.answers.specs.Lent.{over, tab}
 use Rattle.answers.proofs.Lent.{length-tab, over-twice}
 use Rattle.elements.specs.Elements.{slot_in}
 use Rattle.codes.specs.Fill.{Mapped, present_as1}
-use Rattle.codes.proofs.Told.{ByWords, by-words, mapping-there, all-values}
+use Rattle.codes.proofs.Told.{ByWords, by-words, all-values}
 use Rattle.codes.proofs.store.fill_mapped.Goals as goal
 use Rattle.codes.proofs.store.fill_mapped.Goals.{In-Of, Start}
 

@@ -1,12 +1,10 @@
 -- `store::store_mapped` meets its contract: the rules in their order, and then the slots.
-use Rattle.std.proofs.Common.{◌≡◌, true, length, sym, ◌∙◌, rules}
-use borrow.Author.Tests.{not-true, not-false}
+use Rattle.std.proofs.Common.{◌≡◌, length, sym, ◌∙◌}
 use Rattle.answers.specs.Outcome.{found}
 use Rattle.answers.specs.Table.{passes}
 use Rattle.deviations.specs.Form.{form_listed}
 use Rattle.rules.specs.Decided.{ready, decided}
 use Rattle.rules.specs.Rules.{room_rules}
-use Rattle.codes.specs.Store.{store_ready}
 use Rattle.codes.proofs.Whole.{pack-stops, room-stops, passed-all, not-stored, stored, slots-there}
 use Rattle.codes.proofs.store.store_mapped.Goals as goal
 use Rattle.codes.proofs.store.store_mapped.Goals.{After-corr_slots-slots, In-Pack, In_default-rooms}

@@ -1,12 +1,11 @@
 -- `values::fill_all` meets its contract: each turn stores the next code's number, which is there, and that the slot is
 -- present.
-use Rattle.std.proofs.Common.{◌≡◌, ℕ, ◌+◌, ◌-◌, ◌*◌, ◌≤◌, length, refl, zero-mul, arith}
-use Rattle.answers.specs.Lent.{tab}
-use Rattle.answers.proofs.Lent.{length-tab, Front}
-use Rattle.codes.specs.Fill.{Maps, Within, mapped_in}
-use Rattle.answers.proofs.Tab.{tab-none, tab-room, tab-more, tab-done}
+use Rattle.std.proofs.Common.{◌≡◌, ℕ, refl, zero-mul, arith}
+use Rattle.answers.proofs.Lent.{length-tab}
+use Rattle.codes.specs.Fill.{mapped_in}
+use Rattle.answers.proofs.Tab.{tab-none, tab-more, tab-done}
 use Rattle.codes.proofs.Bounds.{within_none, within_more}
-use Rattle.codes.proofs.Marked.{code-there, code-next}
+use Rattle.codes.proofs.Marked.{code-next}
 use Rattle.codes.proofs.values.fill_all.Goals as goal
 use Rattle.codes.proofs.values.fill_all.Goals.{Start}
 

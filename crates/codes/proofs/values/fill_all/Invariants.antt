@@ -1,10 +1,7 @@
-use Rattle.std.proofs.Common.{◌≡◌, ℕ, ◌+◌, ◌-◌, ◌*◌, ◌≤◌, length, refl, zero-mul, arith}
+use Rattle.std.proofs.Common.{◌≡◌, ◌+◌, ◌-◌, ◌*◌}
 use Rattle.answers.specs.Lent.{tab}
-use Rattle.answers.proofs.Lent.{length-tab, Front}
-use Rattle.codes.specs.Fill.{Maps, Within, mapped_in}
-use Rattle.answers.proofs.Tab.{tab-none, tab-room, tab-more, tab-done}
-use Rattle.codes.proofs.Bounds.{within_none, within_more}
-use Rattle.codes.proofs.Marked.{code-there, code-next}
+use Rattle.answers.proofs.Lent.{Front}
+use Rattle.codes.specs.Fill.{Within, mapped_in}
 use Rattle.codes.proofs.values.fill_all.Given as goal
 
 abbrev pub invariant-loop-k : goal.invariant-loop-k

@@ -1,9 +1,9 @@
 -- `values::fill_group` meets its contract: each turn stores an absent slot, and over it the next code's number where
 -- the slot's bit is set.
-use Rattle.std.proofs.Common.{◌+◌, ◌-◌, ◌*◌, ◌^◌, ◌<◌, ◌≤◌, length, get_or, ⊎_elim, le_of_lt, arith, length-set}
+use Rattle.std.proofs.Common.{◌+◌, ◌*◌, ◌^◌, ◌<◌, ◌≤◌, length, arith}
 use Rattle.codes.specs.Fill.{Maps}
-use Rattle.codes.proofs.Counts.{fewer, up_fits, within-fits, entry-fits, starts-within, slot-within, slot-there}
-use Rattle.codes.proofs.Marked.{Group, group-none, group-long, group-code, group-set, group-unset, group-done}
+use Rattle.codes.proofs.Counts.{within-fits}
+use Rattle.codes.proofs.Marked.{group-code, group-set, group-unset}
 use Rattle.codes.proofs.values.fill_group.Goals as goal
 use Rattle.codes.proofs.values.fill_group.Goals.{then-byte-j-eq1, else-byte-j-eq1, Start, Then-byte-j-eq1}
 
@@ -32,6 +32,6 @@ loop-j-preserved c =
     let g = c.loop-j.invariant in
     let most = c.requires.1 in
     elim c.if-byte-j-eq1.branch [
-        then-byte-j-eq1 w ↦ rw (w.correlations-is, w.states-is, w.seen-is, w.next-is) (group-set g c.loop-j-test.true most w.if-byte-j-eq1.true w.code_at-y.ensures w.value_of.ensures)
+      | then-byte-j-eq1 w ↦ rw (w.correlations-is, w.states-is, w.seen-is, w.next-is) (group-set g c.loop-j-test.true most w.if-byte-j-eq1.true w.code_at-y.ensures w.value_of.ensures)
       | else-byte-j-eq1 w ↦ rw (w.correlations-is, w.states-is, w.seen-is, w.next-is) (group-unset g c.loop-j-test.true most w.if-byte-j-eq1.false)
     ]

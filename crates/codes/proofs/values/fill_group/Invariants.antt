@@ -1,7 +1,5 @@
-use Rattle.std.proofs.Common.{◌+◌, ◌-◌, ◌*◌, ◌^◌, ◌<◌, ◌≤◌, length, get_or, ⊎_elim, le_of_lt, arith, length-set}
-use Rattle.codes.specs.Fill.{Maps}
-use Rattle.codes.proofs.Counts.{fewer, up_fits, within-fits, entry-fits, starts-within, slot-within, slot-there}
-use Rattle.codes.proofs.Marked.{Group, group-none, group-long, group-code, group-set, group-unset, group-done}
+use Rattle.std.proofs.Common.{◌+◌, ◌-◌, ◌*◌, get_or}
+use Rattle.codes.proofs.Marked.{Group}
 use Rattle.codes.proofs.values.fill_group.Given as goal
 
 abbrev pub invariant-loop-j : goal.invariant-loop-j

@@ -1,7 +1,7 @@
 -- `values::fill_marked` meets its contract: each turn fills the slots of one byte of the Bit Vector, and the last byte
 -- may have fewer than eight.
-use Rattle.std.proofs.Common.{◌≡◌, ◌+◌, ◌-◌, ◌*◌, ◌/◌, ◌%◌, ◌^◌, ◌<◌, ◌≤◌, zero-le, le_refl, arith}
-use Rattle.codes.proofs.Counts.{fewer, up, up_fits, eight-there, eight-next, byte-there, whole-bytes, rest-is, rest-there, no-rest}
+use Rattle.std.proofs.Common.{◌≡◌, ◌+◌, ◌*◌, ◌/◌, ◌%◌, ◌≤◌, zero-le, le_refl}
+use Rattle.codes.proofs.Counts.{up, eight-there, eight-next, byte-there, whole-bytes, rest-is, rest-there, no-rest}
 use Rattle.codes.proofs.Marked.{Marked, marked-none, marked-codes, marked-room, marked_more, marked-done}
 use Rattle.codes.proofs.values.fill_marked.Goals as goal
 use Rattle.codes.proofs.values.fill_marked.Goals.{After-loop-i, After-slice_known-then-rest-gt0-2-1, In-loop-i}

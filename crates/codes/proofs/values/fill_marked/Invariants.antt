@@ -1,6 +1,5 @@
-use Rattle.std.proofs.Common.{◌≡◌, ◌+◌, ◌-◌, ◌*◌, ◌/◌, ◌%◌, ◌^◌, ◌<◌, ◌≤◌, zero-le, le_refl, arith}
-use Rattle.codes.proofs.Counts.{fewer, up, up_fits, eight-there, eight-next, byte-there, whole-bytes, rest-is, rest-there, no-rest}
-use Rattle.codes.proofs.Marked.{Marked, marked-none, marked-codes, marked-room, marked_more, marked-done}
+use Rattle.std.proofs.Common.{◌-◌, ◌*◌, ◌≤◌}
+use Rattle.codes.proofs.Marked.{Marked}
 use Rattle.codes.proofs.values.fill_marked.Given as goal
 
 abbrev pub invariant-loop-i : goal.invariant-loop-i

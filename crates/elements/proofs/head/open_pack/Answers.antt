@@ -1,14 +1,10 @@
 -- `head::open_pack` meets its contract: rules a) to g) in their order.
 use mathlib.Core.List.{List}
-use mathlib.Core.Path.{◌≡◌, sym, ap, ◌∙◌}
+use mathlib.Core.Path.{◌≡◌, sym, ◌∙◌}
 use Prim.Native.Nat.{ℕ}
-use borrow.Author.Rules.{rules}
-use Rattle.elements.proofs.Opened.{unreadable-refused, short-refused, head-is, fit-within, passed-fits}
-use Rattle.elements.specs.Elements.{places_of}
-use Rattle.elements.specs.Listed.{pack}
-use Rattle.layout.proofs.Peek.{body-within, fit_is}
+use Rattle.layout.proofs.Peek.{fit_is}
 use Rattle.layout.specs.Header.{header_of}
-use Rattle.layout.specs.Ruled.{passed, ruled}
+use Rattle.layout.specs.Ruled.{ruled}
 use Rattle.layout.specs.Size.{fit_ruled}
 use Rattle.layout.specs.declared.header.Header.TheVariants.{Open}
 use Rattle.elements.proofs.head.open_pack.Goals as goal

@@ -2,7 +2,6 @@
 use native.Mathlib.Omega.{arith}
 use Rattle.layout.specs.Triangle.{slots_of}
 use Rattle.layout.proofs.RowByRow.{square-fits}
-use borrow.Author.Rules.{rules}
 use Rattle.elements.proofs.head.vector_length.Goals as goal
 
 pub overflow_add-result : goal.overflow_add-result

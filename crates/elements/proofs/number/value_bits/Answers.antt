@@ -1,17 +1,9 @@
 -- `number::value_bits` meets its contract: only a NaN differs from itself.
 use mathlib.Core.Path.{◌≡◌, refl}
 use mathlib.Core.Bool.{false, not, true≢false}
-use mathlib.Core.List.{[], ◌∷◌}
-use borrow.Author.Rules.{rules}
-use denote.Enum.Declared.{tag_of}
 use lib.Dec.{T}
 use lib.Ieee.{Float, nan, inf, fin, binary64, to_bits, is_nan, ne}
 use lib.Ieee.Compare.{differs_from_itself}
-use types.Run.{OneOf, miss}
-use Rattle.imapb.specs.declared.decode.DecodedImapb.{DecodedImapb}
-use Rattle.imapb.specs.declared.decode.DecodedImapb.TheVariants.{Value, Special, ReservedSpecial, OutOfRange}
-use Rattle.imapb.specs.contracts.decode.DecodedImapb.{the_type}
-use Rattle.elements.specs.Elements.{value_bits}
 use Rattle.elements.proofs.number.value_bits.Goals as goal
 
 -- only a NaN has no bits

@@ -1,9 +1,7 @@
 -- `present::ones` meets its contract. The invariant: the count is that of the whole bytes passed.
-use mathlib.Core.Path.{◌≡◌, refl}
-use Prim.Native.Nat.{◌+◌, ◌-◌, ◌*◌, ◌/◌, ◌%◌, ◌≤◌}
+use mathlib.Core.Path.{◌≡◌}
+use Prim.Native.Nat.{◌+◌, ◌*◌, ◌/◌, ◌%◌}
 use native.Mathlib.Omega.{arith}
-use borrow.Author.Rules.{rules}
-use Rattle.elements.specs.Elements.{ones_before}
 use Rattle.elements.proofs.Vector.{ones-to}
 use Rattle.elements.proofs.present.ones.Goals as goal
 

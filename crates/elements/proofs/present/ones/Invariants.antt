@@ -1,9 +1,6 @@
-use mathlib.Core.Path.{◌≡◌, refl}
-use Prim.Native.Nat.{◌+◌, ◌-◌, ◌*◌, ◌/◌, ◌%◌, ◌≤◌}
-use native.Mathlib.Omega.{arith}
-use borrow.Author.Rules.{rules}
+use mathlib.Core.Path.{◌≡◌}
+use Prim.Native.Nat.{◌-◌, ◌*◌, ◌≤◌}
 use Rattle.elements.specs.Elements.{ones_before}
-use Rattle.elements.proofs.Vector.{ones-to}
 use Rattle.elements.proofs.present.ones.Given as goal
 
 abbrev pub invariant-loop-i : goal.invariant-loop-i

@@ -1,10 +1,10 @@
 -- `place::place_of` meets its contract.
-use mathlib.Core.Path.{◌≡◌, ◌∙◌}
+use mathlib.Core.Path.{◌≡◌}
 use Prim.Native.Nat.{ℕ}
 use native.Mathlib.Omega.{arith}
-use Rattle.elements.proofs.Opened.{pack-tells, refused-tells}
+use Rattle.elements.proofs.Opened.{refused-tells}
 use Rattle.layout.specs.Size.{fit_ruled}
-use Rattle.explain.proofs.Places.{at_front, at-control, at_body, late, all_fit}
+use Rattle.explain.proofs.Places.{at-control, at_body, late, all_fit}
 use Rattle.explain.proofs.place.place_of.Goals as goal
 
 pub control_at-requires : goal.control_at-requires

@@ -1,6 +1,5 @@
 -- `spans::control_at` meets its contract: N was read.
 use mathlib.Core.Path.{sym, ◌∙◌}
-use native.Mathlib.Omega.{arith}
 use Rattle.numbers.proofs.BerOid.{read-tells}
 use Rattle.explain.proofs.spans.control_at.Goals as goal
 

@@ -1,13 +1,9 @@
 -- `decode::decode_imapb` meets its contract.
-use mathlib.Core.Path.{◌≡◌, ap, ◌∙◌}
-use Prim.Native.Nat.{ℕ}
-use borrow.Author.Rules.{rules}
+use mathlib.Core.Path.{◌≡◌}
 use Rattle.answers.specs.Table.{passes}
-use Rattle.numbers.specs.Words.{word_of}
 use Rattle.numbers.proofs.Bytes.{word_lt}
-use Rattle.imapb.specs.Special.{reading}
-use Rattle.imapb.specs.Tables.{reads, code_rules}
-use Rattle.imapb.proofs.Length.{lengths, read-refused, read-passed, code-length, slice-length}
+use Rattle.imapb.specs.Tables.{code_rules}
+use Rattle.imapb.proofs.Length.{lengths, code-length, slice-length}
 use Rattle.imapb.proofs.decode.decode_imapb.Goals as goal
 use Rattle.imapb.proofs.decode.decode_imapb.Goals.{In_default}
 

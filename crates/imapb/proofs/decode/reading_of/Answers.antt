@@ -2,9 +2,8 @@
 use mathlib.Core.Path.{◌≡◌, sym, ap, ◌∙◌}
 use Prim.Native.Nat.{◌-◌, ◌*◌, ◌/◌, ◌^◌}
 use native.Mathlib.Omega.{arith}
-use borrow.Author.Rules.{rules}
 use Rattle.imapb.specs.declared.decode.DecodedImapb.TheVariants.{Value, OutOfRange}
-use Rattle.imapb.proofs.Flags.{both-set, reads-special, reads-outside, halves-fit}
+use Rattle.imapb.proofs.Flags.{both-set, reads-special, reads-outside}
 use Rattle.imapb.proofs.Law.{reads-value}
 use Rattle.imapb.proofs.decode.reading_of.Goals as goal
 use Rattle.imapb.proofs.decode.reading_of.Goals.{Then-top-y}

@@ -2,10 +2,9 @@
 use mathlib.Core.Path.{◌≡◌}
 use Prim.Native.Nat.{◌-◌, ◌*◌, ◌/◌, ◌^◌}
 use native.Mathlib.Omega.{arith}
-use borrow.Author.Rules.{rules}
 use borrow.Author.Tests.{eq-eqb, ne_eqb}
 use lib.Pow.{pow_pos}
-use Rattle.imapb.proofs.Length.{too_short, too_long, is-supported, top-cut}
+use Rattle.imapb.proofs.Length.{is-supported, top-cut}
 use Rattle.imapb.proofs.decode.unless_special.Goals as goal
 use Rattle.imapb.proofs.decode.unless_special.Goals.{After-top_code-top, Then-y-top-eq3}
 

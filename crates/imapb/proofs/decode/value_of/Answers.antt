@@ -1,5 +1,4 @@
 -- `decode::value_of` meets its contract: the nearest binary64's bits give it back, and are no NaN's.
-use borrow.Author.Rules.{rules}
 use Rattle.numbers.proofs.Nearest.{nearest-number, nearest-value}
 use Rattle.imapb.specs.Mapping.{value}
 use Rattle.imapb.proofs.Range.{one-is}

@@ -2,7 +2,6 @@
 use mathlib.Core.Path.{◌≡◌, ◌∙◌}
 use Prim.Native.Nat.{ℕ}
 use native.Mathlib.Omega.{arith}
-use borrow.Author.Rules.{rules}
 use lib.Ieee.{Float, binary64, of_bits}
 use lib.Ieee.Bits.{of_bits-fits, of_bits-to_bits, nan_bits_is}
 use Rattle.numbers.specs.declared.conversions.WholePart.TheVariants.{Whole}

@@ -3,14 +3,14 @@ use mathlib.Core.Path.{◌≡◌, refl, ap, ◌∙◌}
 use Prim.Native.Nat.{ℕ, ◌+◌, ◌-◌, ◌*◌, ◌/◌, ◌^◌, ◌≤◌, ◌<◌}
 use native.Mathlib.Omega.{arith}
 use borrow.Author.Rules.{rules}
-use borrow.Author.Tests.{lt-ltb, le-ltb, le-leb, lt-leb}
+use borrow.Author.Tests.{le-ltb, le-leb, lt-leb}
 use lib.ListN.{length}
 use lib.Pow.{pow_pos}
 use Rattle.answers.specs.Lent.{over}
 use Rattle.numbers.specs.Words.{bytes_of}
 use Rattle.imapb.specs.declared.special.ImapbSpecial.{ImapbSpecial}
 use Rattle.imapb.specs.Special.{payload, special_code}
-use Rattle.imapb.proofs.Length.{too_short, too_long, is-supported, top-cut}
+use Rattle.imapb.proofs.Length.{is-supported, top-cut}
 use Rattle.imapb.proofs.ReadBack.{special-fits}
 use Rattle.imapb.proofs.special.encode_imapb_special.Goals as goal
 use Rattle.imapb.proofs.special.encode_imapb_special.Goals.{After-family_of, After-top_code-unit, Else-unit-payload}

@@ -1,7 +1,6 @@
 -- `special::payload_of` meets its contract.
 use Prim.Native.Nat.{◌-◌, ◌*◌}
 use native.Mathlib.Omega.{arith}
-use borrow.Author.Rules.{rules}
 use Rattle.imapb.proofs.Length.{top-cut}
 use Rattle.imapb.proofs.special.payload_of.Goals as goal
 

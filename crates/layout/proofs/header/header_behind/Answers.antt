@@ -1,6 +1,5 @@
 -- `header::header_behind` meets its contract.
 use native.Mathlib.Omega.{arith}
-use borrow.Author.Rules.{rules}
 use Rattle.layout.proofs.Rules.{no-control, one_byte, no_second, two_bytes}
 use Rattle.layout.proofs.header.header_behind.Goals as goal
 

@@ -1,17 +1,9 @@
 -- `size::check_matrix_size_fits` meets its contract.
-use mathlib.Core.Path.{◌≡◌, sym, ◌∙◌}
-use Prim.Native.Nat.{◌*◌, ◌≤◌}
+use Prim.Native.Nat.{◌≤◌}
 use native.Mathlib.Nat.{mul-le-mul}
 use native.Mathlib.Omega.{arith}
-use borrow.Author.Rules.{rules}
-use borrow.Author.Tests.{lt-ltb, eq-eqb}
-use Rattle.answers.specs.Table.{Answer}
-use Rattle.layout.specs.declared.rule.Rule.TheVariants.{E}
-use Rattle.layout.specs.Ruled.{Ruled, passed, ruled, named}
-use Rattle.layout.specs.Size.{max_rows, max_slots, size_ruled}
+use Rattle.layout.specs.Size.{max_slots}
 use Rattle.layout.proofs.RowByRow.{few-slots}
-use Rattle.layout.proofs.Ruled.{stops-by, goes_by}
-use Rattle.layout.proofs.Rules.{some-length, is_held, behind_e, from-e, behind-f, behind-g}
 use Rattle.layout.proofs.size.check_matrix_size_fits.Goals as goal
 use Rattle.layout.proofs.size.check_matrix_size_fits.Goals.{After-corr_slots-slots}
 

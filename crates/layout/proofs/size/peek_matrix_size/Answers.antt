@@ -2,14 +2,12 @@
 use mathlib.Core.Path.{◌≡◌, sym, ap, ◌∙◌}
 use mathlib.Core.List.{List}
 use Prim.Native.Nat.{ℕ}
-use borrow.Author.Rules.{rules}
 use Rattle.answers.proofs.OneToOne.{refused-not-done}
 use Rattle.layout.specs.declared.header.Header.TheVariants.{Open}
-use Rattle.layout.specs.declared.size.Peek.TheVariants.{Size}
 use Rattle.layout.specs.Header.{header_of}
 use Rattle.layout.specs.Size.{fit_rules}
 use Rattle.layout.specs.Ruled.{ruled, unnamed}
-use Rattle.layout.proofs.Peek.{peek-unopened, opened, body-within, fit_is, not-open}
+use Rattle.layout.proofs.Peek.{fit_is}
 use Rattle.layout.proofs.size.peek_matrix_size.Goals as goal
 use Rattle.layout.proofs.size.peek_matrix_size.Goals.{In-Open, In_default-fits}
 

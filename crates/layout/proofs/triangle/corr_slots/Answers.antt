@@ -1,9 +1,6 @@
 -- `triangle::corr_slots` meets its contract.
 use mathlib.Core.Path.{refl}
-use native.Mathlib.Omega.{arith}
-use borrow.Author.Rules.{rules}
 use Rattle.layout.specs.Triangle.{slots_of}
-use Rattle.layout.proofs.RowByRow.{square-fits}
 use Rattle.layout.proofs.triangle.corr_slots.Goals as goal
 
 pub returns-then-n-eq0 : goal.returns-then-n-eq0

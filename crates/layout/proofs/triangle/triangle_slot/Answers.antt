@@ -1,7 +1,6 @@
 -- `triangle::triangle_slot` meets its contract.
 use native.Mathlib.Omega.{arith}
-use borrow.Author.Rules.{rules}
-use borrow.Author.Tests.{lt-ltb, le-ltb}
+use borrow.Author.Tests.{lt-ltb}
 use Rattle.layout.specs.Triangle.{slot_of}
 use Rattle.layout.proofs.RowByRow.{square-fits, product_le}
 use Rattle.layout.proofs.triangle.triangle_slot.Goals as goal

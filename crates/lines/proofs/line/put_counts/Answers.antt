@@ -1,5 +1,4 @@
 -- `line::put_counts` meets its contract: one piece behind the other.
-use mathlib.Core.Path.{refl}
 use Rattle.text.proofs.Pieces.{put_then}
 use Rattle.lines.proofs.line.put_counts.Goals as goal
 

@@ -1,10 +1,6 @@
 -- `line::put_rows` meets its contract: each turn puts the next line behind those before it.
 use mathlib.Core.Path.{refl}
-use Prim.Native.Nat.{◌-◌}
-use lib.ListN.{length, get_or}
-use Rattle.answers.specs.Lent.{joined}
-use Rattle.text.proofs.Pieces.{Puts, puts_none, puts-more, puts-done, put-long}
-use Rattle.lines.specs.Lines.{s_line}
+use Rattle.text.proofs.Pieces.{puts-more}
 use Rattle.lines.proofs.line.put_rows.Goals as goal
 
 pub loop-i-preserved : goal.loop-i-preserved

@@ -1,11 +1,11 @@
 -- `values::put_entries` meets its contract: each turn puts the next number.
 use mathlib.Core.Path.{◌≡◌, sym, ◌∙◌}
-use Prim.Native.Nat.{suc, ◌-◌, ◌<◌}
+use Prim.Native.Nat.{suc, ◌<◌}
 use native.Mathlib.Numerals.{add-one}
 use native.Mathlib.Omega.{arith}
 use lib.ListN.{length, take, drop, get_or, length-take, drop_of_length-le}
 use lib.Seq.{drop-cons, get_or-take}
-use Rattle.text.proofs.Pieces.{Rest, rest_all, rest_more, rest-done}
+use Rattle.text.proofs.Pieces.{rest_all, rest_more, rest-done}
 use Rattle.lines.specs.Lines.{entries}
 use Rattle.lines.proofs.Entries.{kinds, kinds-none, kinds-one}
 use Rattle.lines.proofs.values.put_entries.Goals as goal

@@ -1,13 +1,8 @@
-use mathlib.Core.Path.{◌≡◌, sym, ◌∙◌}
-use Prim.Native.Nat.{suc, ◌-◌, ◌<◌}
-use native.Mathlib.Numerals.{add-one}
-use native.Mathlib.Omega.{arith}
-use borrow.Author.Rules.{rules}
-use lib.ListN.{length, take, drop, get_or, length-take, drop_of_length-le}
-use lib.Seq.{drop-cons, get_or-take}
-use Rattle.text.proofs.Pieces.{Rest, rest_all, rest_more, rest-done}
+use Prim.Native.Nat.{◌-◌}
+use lib.ListN.{take, drop}
+use Rattle.text.proofs.Pieces.{Rest}
 use Rattle.lines.specs.Lines.{entries}
-use Rattle.lines.proofs.Entries.{kinds, kinds-none, kinds-one}
+use Rattle.lines.proofs.Entries.{kinds}
 use Rattle.lines.proofs.values.put_entries.Given as goal
 
 abbrev pub invariant-loop-i : goal.invariant-loop-i

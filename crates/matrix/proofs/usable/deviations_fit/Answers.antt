@@ -1,11 +1,7 @@
 -- `usable::deviations_fit` meets its contract. The invariant: which tests are left.
 use mathlib.Core.Path.{sym, ◌∙◌}
-use Prim.Native.Nat.{◌-◌}
 use native.Mathlib.Omega.{arith}
-use borrow.Author.Rules.{rules}
-use borrow.Author.Tests.{not-true, not-false}
-use lib.ListN.{get_or}
-use Rattle.answers.proofs.Every.{Tested, tested-none, tested-more, tested-not, tested-all}
+use Rattle.answers.proofs.Every.{tested-not, tested-all}
 use Rattle.matrix.specs.Usable.{is_deviation}
 use Rattle.matrix.proofs.FirstAll.{too_few, first-every}
 use Rattle.matrix.proofs.usable.deviations_fit.Goals as goal

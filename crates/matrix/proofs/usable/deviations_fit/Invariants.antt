@@ -1,12 +1,7 @@
-use mathlib.Core.Path.{sym, ◌∙◌}
 use Prim.Native.Nat.{◌-◌}
-use native.Mathlib.Omega.{arith}
-use borrow.Author.Rules.{rules}
-use borrow.Author.Tests.{not-true, not-false}
 use lib.ListN.{get_or}
-use Rattle.answers.proofs.Every.{Tested, tested-none, tested-more, tested-not, tested-all}
+use Rattle.answers.proofs.Every.{Tested}
 use Rattle.matrix.specs.Usable.{is_deviation}
-use Rattle.matrix.proofs.FirstAll.{too_few, first-every}
 use Rattle.matrix.proofs.usable.deviations_fit.Given as goal
 
 abbrev pub invariant-loop-i : goal.invariant-loop-i

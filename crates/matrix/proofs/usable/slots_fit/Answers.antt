@@ -2,13 +2,11 @@
 use mathlib.Core.Path.{◌≡◌, sym, ap₂, ◌∙◌}
 use mathlib.Core.Bool.{Bool, ◌&&◌, and-false}
 use mathlib.Core.List.{List}
-use Prim.Native.Nat.{ℕ, ◌-◌, ◌≤◌}
+use Prim.Native.Nat.{ℕ, ◌≤◌}
 use native.Mathlib.Omega.{arith}
-use borrow.Author.Rules.{rules}
-use borrow.Author.Tests.{not-true, not-false}
 use lib.ListN.{length, get_or}
 use Rattle.answers.specs.Every.{every}
-use Rattle.answers.proofs.Every.{every-both, Tested, tested-none, tested-more, tested-not, tested-all}
+use Rattle.answers.proofs.Every.{every-both, tested-not, tested-all}
 use Rattle.matrix.specs.Usable.{is_correlation, is_settled, first_all}
 use Rattle.matrix.proofs.FirstAll.{too_few, first-every}
 use Rattle.matrix.proofs.usable.slots_fit.Goals as goal

@@ -1,17 +1,13 @@
 -- `export::export_npy` meets its contract: a refusal that leaves all as it was, or the header and the body.
-use mathlib.Core.Path.{◌≡◌, sym, ap, ◌∙◌}
-use mathlib.Core.List.{List, [], ◌∷◌}
+use mathlib.Core.Path.{◌≡◌, sym, ap}
+use mathlib.Core.List.{List}
 use Prim.Native.Nat.{ℕ}
 use native.Mathlib.Omega.{arith}
 use lib.ListN.{length}
-use lib.Seq.{sets, length-sets}
-use Rattle.answers.specs.Table.{Answer, answer, wholes, passes}
-use Rattle.answers.specs.Listed.{checked}
-use Rattle.answers.proofs.Lent.{refused-leaves}
-use Rattle.answers.proofs.Next.{stops}
+use lib.Seq.{sets}
+use Rattle.answers.specs.Table.{Answer, passes}
 use Rattle.npy_header.specs.Header.{header}
 use Rattle.npy_header.proofs.Headers.{header-over}
-use Rattle.npy_export.specs.File.{file_length, file_of}
 use Rattle.npy_export.specs.Rules.{export_rules}
 use Rattle.npy_export.proofs.Put.{file-stored}
 use Rattle.npy_export.proofs.Passed.{Exports, exports}

@@ -3,11 +3,10 @@ use mathlib.Core.Path.{◌≡◌, sym}
 use Prim.Native.Nat.{◌+◌, ◌-◌, ◌*◌, ◌≤◌}
 use native.Mathlib.Omega.{arith}
 use lib.ListN.{length}
-use Rattle.answers.proofs.Runs.{Run, run_none, run_room, run_more, run-done}
+use Rattle.answers.proofs.Runs.{run_none, run_room, run_more, run-done}
 use Rattle.layout.specs.Triangle.{slot_of}
 use Rattle.layout.proofs.RowByRow.{row_first, row_next, row_within}
-use Rattle.npy_header.specs.Header.{header_length}
-use Rattle.npy_export.specs.File.{row_bytes, body_of}
+use Rattle.npy_export.specs.File.{body_of}
 use Rattle.npy_export.proofs.Body.{length-row, length-body}
 use Rattle.npy_export.proofs.write.put_body.Goals as goal
 use Rattle.npy_export.proofs.write.put_body.Goals.{In-loop-i}

@@ -1,14 +1,9 @@
-use mathlib.Core.Path.{◌≡◌, sym}
-use Prim.Native.Nat.{◌+◌, ◌-◌, ◌*◌, ◌≤◌}
-use native.Mathlib.Omega.{arith}
-use borrow.Author.Rules.{rules}
-use lib.ListN.{length}
-use Rattle.answers.proofs.Runs.{Run, run_none, run_room, run_more, run-done}
+use mathlib.Core.Path.{◌≡◌}
+use Prim.Native.Nat.{◌+◌, ◌-◌}
+use Rattle.answers.proofs.Runs.{Run}
 use Rattle.layout.specs.Triangle.{slot_of}
-use Rattle.layout.proofs.RowByRow.{row_first, row_next, row_within}
 use Rattle.npy_header.specs.Header.{header_length}
-use Rattle.npy_export.specs.File.{row_bytes, body_of}
-use Rattle.npy_export.proofs.Body.{length-row, length-body}
+use Rattle.npy_export.specs.File.{row_bytes}
 use Rattle.npy_export.proofs.write.put_body.Given as goal
 
 abbrev pub invariant-loop-i : goal.invariant-loop-i

@@ -3,10 +3,9 @@ use mathlib.Core.Path.{◌≡◌, refl}
 use Prim.Native.Nat.{◌+◌, ◌-◌, ◌≤◌, ◌<◌}
 use native.Mathlib.Omega.{arith}
 use lib.ListN.{length}
-use Rattle.answers.proofs.Runs.{Run, run_none, run_room, run_more, run-done}
+use Rattle.answers.proofs.Runs.{run_none, run_room, run_more}
 use Rattle.layout.specs.Triangle.{slot_of}
 use Rattle.layout.proofs.RowByRow.{row-by-row, row_first, row_next, row_within, row-along}
-use Rattle.npy_export.specs.Parts.{slot_bytes}
 use Rattle.npy_export.proofs.Body.{length-left}
 use Rattle.npy_export.proofs.write.put_left.Goals as goal
 use Rattle.npy_export.proofs.write.put_left.Goals.{In-loop-j}

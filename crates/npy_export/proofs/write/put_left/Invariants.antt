@@ -1,13 +1,8 @@
-use mathlib.Core.Path.{◌≡◌, refl}
-use Prim.Native.Nat.{◌+◌, ◌-◌, ◌≤◌, ◌<◌}
-use native.Mathlib.Omega.{arith}
-use borrow.Author.Rules.{rules}
-use lib.ListN.{length}
-use Rattle.answers.proofs.Runs.{Run, run_none, run_room, run_more, run-done}
+use mathlib.Core.Path.{◌≡◌}
+use Prim.Native.Nat.{◌+◌, ◌-◌}
+use Rattle.answers.proofs.Runs.{Run}
 use Rattle.layout.specs.Triangle.{slot_of}
-use Rattle.layout.proofs.RowByRow.{row-by-row, row_first, row_next, row_within, row-along}
 use Rattle.npy_export.specs.Parts.{slot_bytes}
-use Rattle.npy_export.proofs.Body.{length-left}
 use Rattle.npy_export.proofs.write.put_left.Given as goal
 
 abbrev pub invariant-loop-j : goal.invariant-loop-j

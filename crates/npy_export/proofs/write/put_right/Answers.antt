@@ -1,12 +1,11 @@
 -- `write::put_right` meets its contract: each turn writes the next slot behind those before it.
 use mathlib.Core.Path.{◌≡◌, refl, sym}
-use Prim.Native.Nat.{◌+◌, ◌-◌, ◌≤◌, ◌<◌}
+use Prim.Native.Nat.{◌+◌, ◌≤◌, ◌<◌}
 use native.Mathlib.Omega.{arith}
 use lib.ListN.{length}
-use Rattle.answers.proofs.Runs.{Run, run_none, run_room, run_more, run-done}
+use Rattle.answers.proofs.Runs.{run_none, run_room, run_more}
 use Rattle.layout.specs.Triangle.{slot_of}
 use Rattle.layout.proofs.RowByRow.{row-by-row, row-along}
-use Rattle.npy_export.specs.Parts.{slot_bytes}
 use Rattle.npy_export.proofs.Body.{length-right}
 use Rattle.npy_export.proofs.write.put_right.Goals as goal
 use Rattle.npy_export.proofs.write.put_right.Goals.{In-loop-k}

@@ -1,13 +1,7 @@
-use mathlib.Core.Path.{◌≡◌, refl, sym}
-use Prim.Native.Nat.{◌+◌, ◌-◌, ◌≤◌, ◌<◌}
-use native.Mathlib.Omega.{arith}
-use borrow.Author.Rules.{rules}
-use lib.ListN.{length}
-use Rattle.answers.proofs.Runs.{Run, run_none, run_room, run_more, run-done}
+use Prim.Native.Nat.{◌+◌, ◌-◌}
+use Rattle.answers.proofs.Runs.{Run}
 use Rattle.layout.specs.Triangle.{slot_of}
-use Rattle.layout.proofs.RowByRow.{row-by-row, row-along}
 use Rattle.npy_export.specs.Parts.{slot_bytes}
-use Rattle.npy_export.proofs.Body.{length-right}
 use Rattle.npy_export.proofs.write.put_right.Given as goal
 
 abbrev pub invariant-loop-k : goal.invariant-loop-k

@@ -1,7 +1,5 @@
 -- `check::first_break` meets its contract. The invariant: what is left of both breaks where all of them does.
-use Prim.Native.Nat.{◌-◌}
-use lib.ListN.{length}
-use Rattle.npy_header.proofs.Headers.{Held, held_none, held-short, held-differs, held_more, held-done}
+use Rattle.npy_header.proofs.Headers.{held-short}
 use Rattle.npy_header.proofs.check.first_break.Goals as goal
 
 pub returns-then-file-i : goal.returns-then-file-i

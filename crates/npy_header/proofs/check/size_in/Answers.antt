@@ -1,7 +1,6 @@
 -- `check::size_in` meets its contract. The invariant: what is left to take, behind n, spells the size.
-use Prim.Native.Nat.{◌-◌}
 use native.Mathlib.Omega.{arith}
-use Rattle.npy_header.proofs.Headers.{Sizing, sizing-none, sizing-small, sizing-end, sizing-zero, sizing-more, sizing-done}
+use Rattle.npy_header.proofs.Headers.{sizing-none, sizing-more}
 use Rattle.npy_header.proofs.check.size_in.Goals as goal
 
 pub loop-i-init : goal.loop-i-init

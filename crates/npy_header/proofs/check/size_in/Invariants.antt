@@ -1,7 +1,5 @@
 use Prim.Native.Nat.{◌-◌}
-use native.Mathlib.Omega.{arith}
-use borrow.Author.Rules.{rules}
-use Rattle.npy_header.proofs.Headers.{Sizing, sizing-none, sizing-small, sizing-end, sizing-zero, sizing-more, sizing-done}
+use Rattle.npy_header.proofs.Headers.{Sizing}
 use Rattle.npy_header.proofs.check.size_in.Given as goal
 
 abbrev pub invariant-loop-i : goal.invariant-loop-i

@@ -1,8 +1,5 @@
 -- `header::pad` meets its contract: each turn stores a space more, and the newline stands behind them.
-use Prim.Native.Nat.{◌-◌}
-use native.Mathlib.Omega.{arith}
-use lib.ListN.{length-set}
-use Rattle.npy_header.proofs.Headers.{Padded, padded-none, padded-long, padded-more, padded-done}
+use Rattle.npy_header.proofs.Headers.{padded-more, padded-done}
 use Rattle.npy_header.proofs.header.pad.Goals as goal
 
 pub loop-next-preserved : goal.loop-next-preserved

@@ -1,8 +1,5 @@
 use Prim.Native.Nat.{◌-◌}
-use native.Mathlib.Omega.{arith}
-use borrow.Author.Rules.{rules}
-use lib.ListN.{length-set}
-use Rattle.npy_header.proofs.Headers.{Padded, padded-none, padded-long, padded-more, padded-done}
+use Rattle.npy_header.proofs.Headers.{Padded}
 use Rattle.npy_header.proofs.header.pad.Given as goal
 
 abbrev pub invariant-loop-next : goal.invariant-loop-next

@@ -1,9 +1,8 @@
 -- `header::write_header` meets its contract: N, the room, and then the header.
-use mathlib.Core.Path.{refl, sym, ◌∙◌}
-use borrow.Author.Tests.{lt-ltb, le-ltb}
+use mathlib.Core.Path.{sym, ◌∙◌}
 use lib.ListN.{length}
 use Rattle.answers.proofs.Stored.{sets_over}
-use Rattle.npy_header.specs.Header.{header_length, header, max_size}
+use Rattle.npy_header.specs.Header.{header}
 use Rattle.npy_header.proofs.Headers.{length-header, header-passes}
 use Rattle.npy_header.proofs.header.write_header.Goals as goal
 

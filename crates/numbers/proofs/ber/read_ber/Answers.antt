@@ -3,7 +3,6 @@ use mathlib.Core.Path.{◌≡◌, sym, ap}
 use Prim.Native.Nat.{ℕ, ◌+◌, ◌-◌, ◌%◌}
 use native.Mathlib.Numerals.{add-one}
 use native.Mathlib.Omega.{arith}
-use borrow.Author.Rules.{rules}
 use lib.ListN.{get_or}
 use Rattle.numbers.proofs.Lengths.{short-is, long-is, no_length}
 use Rattle.numbers.proofs.ber.read_ber.Goals as goal

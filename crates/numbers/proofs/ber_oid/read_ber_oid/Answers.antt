@@ -1,11 +1,10 @@
 -- `ber_oid::read_ber_oid` meets its contract. The invariant: the bytes passed have their top bit set and spell the
 -- value.
-use mathlib.Core.Path.{◌≡◌, refl, sym}
+use mathlib.Core.Path.{◌≡◌, sym}
 use mathlib.Core.List.{List}
-use Prim.Native.Nat.{ℕ, suc, ◌+◌, ◌*◌, ◌-◌, ◌%◌, ◌^◌, ◌≤◌, ◌<◌}
+use Prim.Native.Nat.{ℕ, suc, ◌+◌, ◌*◌, ◌%◌, ◌≤◌}
 use native.Mathlib.Omega.{arith}
-use borrow.Author.Rules.{rules}
-use lib.ListN.{length, drop}
+use lib.ListN.{drop}
 use Rattle.numbers.specs.BerOid.{continued, oid_value}
 use Rattle.numbers.proofs.Digits.{spelt-more, spelt-take-le}
 use Rattle.numbers.proofs.BerOid.{continued-more, continued-last, read_is, none_is}

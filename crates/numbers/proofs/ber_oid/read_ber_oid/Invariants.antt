@@ -1,12 +1,7 @@
-use mathlib.Core.Path.{◌≡◌, refl, sym}
-use mathlib.Core.List.{List}
-use Prim.Native.Nat.{ℕ, suc, ◌+◌, ◌*◌, ◌-◌, ◌%◌, ◌^◌, ◌≤◌, ◌<◌}
-use native.Mathlib.Omega.{arith}
-use borrow.Author.Rules.{rules}
+use mathlib.Core.Path.{◌≡◌}
+use Prim.Native.Nat.{◌+◌, ◌-◌, ◌^◌, ◌≤◌, ◌<◌}
 use lib.ListN.{length, drop}
 use Rattle.numbers.specs.BerOid.{continued, oid_value}
-use Rattle.numbers.proofs.Digits.{spelt-more, spelt-take-le}
-use Rattle.numbers.proofs.BerOid.{continued-more, continued-last, read_is, none_is}
 use Rattle.numbers.proofs.ber_oid.read_ber_oid.Given as goal
 
 abbrev pub invariant-loop-taken : goal.invariant-loop-taken

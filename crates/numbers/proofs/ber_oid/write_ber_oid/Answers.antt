@@ -1,14 +1,12 @@
 -- `ber_oid::write_ber_oid` meets its contract. The invariant: with the digits that are left, the bytes are what they
 -- were to be.
-use mathlib.Core.Path.{refl, ◌∙◌}
-use Prim.Native.Nat.{◌≤◌}
+use mathlib.Core.Path.{◌∙◌}
 use native.Mathlib.Omega.{arith}
-use borrow.Author.Rules.{rules}
-use borrow.Author.Tests.{lt-ltb, le-ltb}
-use lib.ListN.{length, length-set}
+use borrow.Author.Tests.{le-ltb}
+use lib.ListN.{length}
 use Rattle.numbers.specs.BerOid.{oid_length}
-use Rattle.numbers.proofs.Digits.{Back, back_none, back_more, back_done}
-use Rattle.numbers.proofs.BerOid.{enough, stored}
+use Rattle.numbers.proofs.Digits.{back_done}
+use Rattle.numbers.proofs.BerOid.{stored}
 use Rattle.numbers.proofs.ber_oid.write_ber_oid.Goals as goal
 
 pub returns : goal.returns

@@ -1,12 +1,4 @@
-use mathlib.Core.Path.{refl, ◌∙◌}
-use Prim.Native.Nat.{◌≤◌}
-use native.Mathlib.Omega.{arith}
-use borrow.Author.Rules.{rules}
-use borrow.Author.Tests.{lt-ltb, le-ltb}
-use lib.ListN.{length, length-set}
-use Rattle.numbers.specs.BerOid.{oid_length}
-use Rattle.numbers.proofs.Digits.{Back, back_none, back_more, back_done}
-use Rattle.numbers.proofs.BerOid.{enough, stored}
+use Rattle.numbers.proofs.Digits.{Back}
 use Rattle.numbers.proofs.ber_oid.write_ber_oid.Given as goal
 
 abbrev pub invariant-loop-i : goal.invariant-loop-i

@@ -2,8 +2,6 @@
 use mathlib.Core.Path.{◌≡◌, ◌∙◌}
 use Prim.Native.Nat.{◌+◌, ◌-◌, ◌*◌, ◌/◌, ◌^◌, min}
 use native.Mathlib.Omega.{arith}
-use borrow.Author.Rules.{rules}
-use lib.Dec.{lit≤}
 use lib.Ieee.{binary32, binary64}
 use Rattle.numbers.specs.Conversions.{converted}
 use Rattle.numbers.proofs.Narrow.{few, to-zero, to-subnormal, to-normal, to-nan}

@@ -3,10 +3,10 @@ use mathlib.Core.Path.{◌≡◌, refl, sym, ap, ◌∙◌}
 use Prim.Native.Nat.{ℕ, ◌+◌, ◌-◌, ◌*◌, ◌^◌, ◌<◌}
 use native.Mathlib.Omega.{arith}
 use borrow.Author.Rules.{rules}
-use lib.Count.{count_leading_zeros, leading_le}
+use lib.Count.{count_leading_zeros}
 use lib.Ieee.{of_int, to_bits}
 use Rattle.numbers.specs.Conversions.{nearest_bits}
-use Rattle.numbers.proofs.Nearest.{zeros-lt, kept-few, nearest-is}
+use Rattle.numbers.proofs.Nearest.{nearest-is}
 use Rattle.numbers.proofs.conversions.nearest_binary64.Goals as goal
 use Rattle.numbers.proofs.conversions.nearest_binary64.Goals.{Else-n-eq0}
 

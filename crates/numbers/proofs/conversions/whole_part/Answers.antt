@@ -1,6 +1,5 @@
 -- `whole_part` meets its contract: each arm is one of `WholePart`. Assumes nothing.
 use native.Mathlib.Omega.{arith}
-use borrow.Author.Rules.{rules}
 use Rattle.numbers.proofs.WholePart.{of_negative, of-large, of-small, of-fraction, of-whole}
 use Rattle.numbers.proofs.conversions.whole_part.Goals as goal
 

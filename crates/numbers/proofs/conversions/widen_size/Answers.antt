@@ -2,7 +2,6 @@
 use mathlib.Core.Path.{◌≡◌, sym, ap, ◌∙◌}
 use Prim.Native.Nat.{ℕ, ◌+◌, ◌*◌, ◌^◌}
 use native.Mathlib.Omega.{arith}
-use borrow.Author.Rules.{rules}
 use lib.Ieee.{binary32, binary64}
 use Rattle.numbers.specs.Conversions.{converted}
 use Rattle.numbers.proofs.Widen.{from_zero, from-infinity, from-normal, from-nan}

@@ -1,11 +1,6 @@
 -- `words::read_be` meets its contract. The invariant: the value is what the bytes passed spell, in 64 bits.
-use mathlib.Core.Path.{◌≡◌, refl}
-use Prim.Native.Nat.{◌-◌, ◌%◌, ◌^◌, ◌≤◌}
 use native.Mathlib.Omega.{arith}
-use borrow.Author.Rules.{rules}
-use lib.ListN.{length, take}
 use lib.Seq.{take_all}
-use Rattle.numbers.specs.Digits.{spelt}
 use Rattle.numbers.specs.Words.{word_of}
 use Rattle.numbers.proofs.Digits.{spelt-more}
 use Rattle.numbers.proofs.words.read_be.Goals as goal

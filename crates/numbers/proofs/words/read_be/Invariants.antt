@@ -1,12 +1,7 @@
-use mathlib.Core.Path.{◌≡◌, refl}
+use mathlib.Core.Path.{◌≡◌}
 use Prim.Native.Nat.{◌-◌, ◌%◌, ◌^◌, ◌≤◌}
-use native.Mathlib.Omega.{arith}
-use borrow.Author.Rules.{rules}
 use lib.ListN.{length, take}
-use lib.Seq.{take_all}
 use Rattle.numbers.specs.Digits.{spelt}
-use Rattle.numbers.specs.Words.{word_of}
-use Rattle.numbers.proofs.Digits.{spelt-more}
 use Rattle.numbers.proofs.words.read_be.Given as goal
 
 abbrev pub invariant-loop-i : goal.invariant-loop-i

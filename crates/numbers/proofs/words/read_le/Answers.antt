@@ -1,12 +1,7 @@
 -- `words::read_le` meets its contract. The invariant: the value is what the bytes from `at` on spell, in 64 bits.
-use mathlib.Core.Path.{◌≡◌, ap}
-use Prim.Native.Nat.{◌+◌, ◌-◌, ◌%◌, ◌^◌, ◌≤◌}
+use mathlib.Core.Path.{◌≡◌}
 use native.Mathlib.Omega.{arith}
-use borrow.Author.Rules.{rules}
-use lib.ListN.{length, drop}
-use lib.Seq.{drop-length}
-use Rattle.numbers.specs.Words.{low_spelt, low_word_of}
-use Rattle.numbers.proofs.Low.{low-more}
+use Rattle.numbers.specs.Words.{low_word_of}
 use Rattle.numbers.proofs.words.read_le.Goals as goal
 
 pub returns : goal.returns

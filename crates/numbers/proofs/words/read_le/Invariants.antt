@@ -1,11 +1,7 @@
-use mathlib.Core.Path.{◌≡◌, ap}
-use Prim.Native.Nat.{◌+◌, ◌-◌, ◌%◌, ◌^◌, ◌≤◌}
-use native.Mathlib.Omega.{arith}
-use borrow.Author.Rules.{rules}
+use mathlib.Core.Path.{◌≡◌}
+use Prim.Native.Nat.{◌%◌, ◌^◌, ◌≤◌}
 use lib.ListN.{length, drop}
-use lib.Seq.{drop-length}
-use Rattle.numbers.specs.Words.{low_spelt, low_word_of}
-use Rattle.numbers.proofs.Low.{low-more}
+use Rattle.numbers.specs.Words.{low_spelt}
 use Rattle.numbers.proofs.words.read_le.Given as goal
 
 abbrev pub invariant-loop-at : goal.invariant-loop-at

@@ -4,7 +4,7 @@ use mathlib.Core.List.{append-nil}
 use native.Mathlib.Omega.{arith}
 use lib.Seq.{drop-length}
 use Rattle.numbers.specs.Words.{bytes_of}
-use Rattle.numbers.proofs.Digits.{Back, back_none, back_more, back_done}
+use Rattle.numbers.proofs.Digits.{back_done}
 use Rattle.numbers.proofs.words.write_be.Goals as goal
 
 pub returns : goal.returns

@@ -1,9 +1,4 @@
-use mathlib.Core.Path.{◌∙◌}
-use mathlib.Core.List.{append-nil}
-use native.Mathlib.Omega.{arith}
-use lib.Seq.{drop-length}
-use Rattle.numbers.specs.Words.{bytes_of}
-use Rattle.numbers.proofs.Digits.{Back, back_none, back_more, back_done}
+use Rattle.numbers.proofs.Digits.{Back}
 use Rattle.numbers.proofs.words.write_be.Given as goal
 
 abbrev pub invariant-loop-i : goal.invariant-loop-i

@@ -1,13 +1,10 @@
 -- `words::write_le` meets its contract. The invariant: the first bytes are stored, and what is left is above them.
-use mathlib.Core.Path.{◌≡◌, sym, ap, ◌∙◌}
-use mathlib.Core.List.{append-nil}
-use Prim.Native.Nat.{ℕ, ◌-◌, ◌/◌, ◌%◌, ◌^◌, ◌<◌}
+use mathlib.Core.Path.{sym, ap, ◌∙◌}
+use Prim.Native.Nat.{ℕ, ◌/◌, ◌%◌, ◌<◌}
 use native.Mathlib.Nat.{pow-zero, div-one}
 use native.Mathlib.Omega.{arith}
-use lib.ListN.{length, length-set}
-use lib.Seq.{drop-length}
-use Rattle.answers.proofs.Lent.{Front, front-none, front-more, front-done}
-use Rattle.numbers.specs.Words.{low_bytes_of}
+use lib.ListN.{length}
+use Rattle.answers.proofs.Lent.{front-none, front-more}
 use Rattle.numbers.proofs.Low.{length-low, low-at, low-left}
 use Rattle.numbers.proofs.words.write_le.Goals as goal
 

@@ -1,6 +1,5 @@
 -- `check::check_correlations` meets its contract, by the one pass or by the plain form.
 use native.Mathlib.Omega.{arith}
-use borrow.Author.Rules.{rules}
 use lib.ListN.{length}
 use Rattle.plan.proofs.Checked.{passed-all}
 use Rattle.plan.proofs.Raised.{met-passed}

@@ -1,11 +1,9 @@
 -- `check::check_each` meets its contract. The invariant: which rules are left, and how many zeros were met.
 use mathlib.Core.Path.{sym, ap, ◌∙◌}
-use Prim.Native.Nat.{◌+◌, ◌-◌}
+use Prim.Native.Nat.{◌+◌}
 use native.Mathlib.Omega.{arith}
-use borrow.Author.Rules.{rules}
-use lib.ListN.{length}
 use Rattle.plan.specs.Listed.{count_listed}
-use Rattle.plan.proofs.Checked.{zeros-le, Passed, passed_none, passed-found, passed-refused, passed-all}
+use Rattle.plan.proofs.Checked.{zeros-le, Passed, passed-found}
 use Rattle.plan.proofs.check.check_each.Goals as goal
 use Rattle.plan.proofs.check.check_each.Goals.{In-Zeros}
 

@@ -1,10 +1,6 @@
-use mathlib.Core.Path.{sym, ap, ◌∙◌}
-use Prim.Native.Nat.{◌+◌, ◌-◌}
-use native.Mathlib.Omega.{arith}
-use borrow.Author.Rules.{rules}
+use Prim.Native.Nat.{◌-◌}
 use lib.ListN.{length}
-use Rattle.plan.specs.Listed.{count_listed}
-use Rattle.plan.proofs.Checked.{zeros-le, Passed, passed_none, passed-found, passed-refused, passed-all}
+use Rattle.plan.proofs.Checked.{Passed}
 use Rattle.plan.proofs.check.check_each.Given as goal
 
 abbrev pub invariant-loop-k : goal.invariant-loop-k

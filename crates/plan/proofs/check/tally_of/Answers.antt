@@ -1,11 +1,9 @@
 -- `check::tally_of` meets its contract.
-use mathlib.Core.Path.{◌≡◌, refl}
-use Prim.Native.Nat.{◌+◌, ◌-◌, ◌≤◌}
+use mathlib.Core.Path.{◌≡◌}
+use Prim.Native.Nat.{◌+◌}
 use native.Mathlib.Numerals.{add-one}
 use native.Mathlib.Omega.{arith}
-use borrow.Author.Rules.{rules}
-use lib.ListN.{length}
-use Rattle.plan.specs.Tally.{bits_met, least_met}
+use Rattle.plan.specs.Tally.{least_met}
 use Rattle.plan.proofs.Raised.{least-le}
 use Rattle.plan.proofs.check.tally_of.Goals as goal
 use Rattle.plan.proofs.check.tally_of.Goals.{After-least_of-zeros}

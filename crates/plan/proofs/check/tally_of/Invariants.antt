@@ -1,11 +1,7 @@
-use mathlib.Core.Path.{◌≡◌, refl}
-use Prim.Native.Nat.{◌+◌, ◌-◌, ◌≤◌}
-use native.Mathlib.Numerals.{add-one}
-use native.Mathlib.Omega.{arith}
-use borrow.Author.Rules.{rules}
+use mathlib.Core.Path.{◌≡◌}
+use Prim.Native.Nat.{◌-◌, ◌≤◌}
 use lib.ListN.{length}
 use Rattle.plan.specs.Tally.{bits_met, least_met}
-use Rattle.plan.proofs.Raised.{least-le}
 use Rattle.plan.proofs.check.tally_of.Given as goal
 
 abbrev pub invariant-loop-k : goal.invariant-loop-k

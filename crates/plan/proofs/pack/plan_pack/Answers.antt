@@ -1,7 +1,6 @@
 -- `pack::plan_pack` meets its contract: the rules in their order, and then the plan.
 use mathlib.Core.Path.{◌≡◌, sym, ap, ◌∙◌}
 use native.Mathlib.Omega.{arith}
-use borrow.Author.Rules.{rules}
 use lib.ListN.{length}
 use Rattle.answers.specs.Table.{Answer}
 use Rattle.answers.specs.Listed.{checked}
@@ -11,7 +10,7 @@ use Rattle.plan.specs.Rules.{count_rules, range_rules}
 use Rattle.plan.specs.Zero.{zeros_before}
 use Rattle.plan.proofs.Checked.{zeros-le}
 use Rattle.plan.proofs.Counts.{counts-tell}
-use Rattle.plan.proofs.Ordered.{counts-stop, range-stop, bounded-slots, all_pass}
+use Rattle.plan.proofs.Ordered.{bounded-slots, all_pass}
 use Rattle.answers.proofs.Outcome.{found-tells}
 use Rattle.plan.proofs.pack.plan_pack.Goals as goal
 use Rattle.plan.proofs.pack.plan_pack.Goals.{In-Zeros, In_default}

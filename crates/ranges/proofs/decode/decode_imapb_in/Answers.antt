@@ -1,5 +1,5 @@
 -- `decode::decode_imapb_in` meets its contract.
-use Rattle.std.proofs.Common.{◌∙◌, rules}
+use Rattle.std.proofs.Common.{◌∙◌}
 use Rattle.ranges.proofs.Reading.{worked-out-is}
 use Rattle.ranges.proofs.decode.decode_imapb_in.Goals as goal
 

@@ -1,5 +1,5 @@
 -- `floor::floor_of` meets its contract, by the laws of `Falls`.
-use Rattle.std.proofs.Common.{◌≡◌, ℕ, pos, ap, ◌∙◌, arith, rules}
+use Rattle.std.proofs.Common.{◌≡◌, ℕ, pos, ap, ◌∙◌, arith}
 use lib.Ieee.{binary64, of_int}
 use Rattle.ranges.proofs.Falls.{whole_of, More, reaches, falls-more, falls-whole}
 use Rattle.ranges.proofs.floor.floor_of.Goals as goal

@@ -1,5 +1,4 @@
 -- `mapping::mapping_of` meets its contract: the sum whose whole part is the top code is below 2^64.
-use Rattle.std.proofs.Common.{rules}
 use lib.Ieee.{of_bits}
 use Rattle.ranges.specs.Range.{span_of, step_in, top_in}
 use Rattle.ranges.proofs.Top.{sum-small}

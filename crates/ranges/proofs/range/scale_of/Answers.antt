@@ -1,5 +1,5 @@
 -- `range::scale_of` meets its contract: a field with no digits behind it is a power of two.
-use Rattle.std.proofs.Common.{◌+◌, ◌*◌, arith, rules}
+use Rattle.std.proofs.Common.{◌+◌, ◌*◌, arith}
 use lib.Ieee.{is_nan}
 use lib.Ieee.Bits.{nan_bits_is}
 use Rattle.ranges.specs.Range.{power_of, span_of, scale_in}

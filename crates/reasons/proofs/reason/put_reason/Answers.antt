@@ -1,6 +1,5 @@
 -- `reason::put_reason` meets its contract: the sentence stands behind the refusal where parts have lines.
 use Rattle.text.proofs.Pieces.{put_then}
-use Rattle.text.proofs.Pieces.{put-end}
 use Rattle.reasons.proofs.reason.put_reason.Goals as goal
 
 pub returns-then-lines : goal.returns-then-lines

@@ -1,5 +1,4 @@
 -- `reason::put_ruled` meets its contract: one piece behind the other.
-use mathlib.Core.Path.{refl}
 use Rattle.text.proofs.Pieces.{put_then}
 use Rattle.reasons.proofs.reason.put_ruled.Goals as goal
 

@@ -1,13 +1,11 @@
 -- `put::put_sentence` meets its contract. The invariant: what is left of the sentence is what is left to put.
-use Prim.Native.Nat.{◌-◌}
 use native.Mathlib.Numerals.{add-one}
 use native.Mathlib.Omega.{arith}
 use mathlib.Core.Path.{refl, sym, ◌∙◌}
 use borrow.Author.Tests.{eq-eqb, ne_eqb}
-use lib.ListN.{drop, drop_of_length-le}
-use Rattle.text.specs.Forms.{spread}
+use lib.ListN.{drop_of_length-le}
 use Rattle.text.proofs.Forms.{spread_end, spread-more}
-use Rattle.text.proofs.Pieces.{Rest, rest_all, rest_more, rest-done}
+use Rattle.text.proofs.Pieces.{rest_all, rest_more, rest-done}
 use Rattle.reasons.specs.Sentences.{sentence_of, letter_of, is_end, text_of, sentence_text}
 use Rattle.reasons.proofs.Rows.{sentence-short}
 use Rattle.reasons.proofs.sentence.put_sentence.Goals as goal

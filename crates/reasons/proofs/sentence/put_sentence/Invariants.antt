@@ -1,15 +1,8 @@
 use Prim.Native.Nat.{◌-◌}
-use native.Mathlib.Numerals.{add-one}
-use native.Mathlib.Omega.{arith}
-use mathlib.Core.Path.{refl, sym, ◌∙◌}
-use borrow.Author.Rules.{rules}
-use borrow.Author.Tests.{eq-eqb, ne_eqb}
-use lib.ListN.{drop, drop_of_length-le}
+use lib.ListN.{drop}
 use Rattle.text.specs.Forms.{spread}
-use Rattle.text.proofs.Forms.{spread_end, spread-more}
-use Rattle.text.proofs.Pieces.{Rest, rest_all, rest_more, rest-done}
-use Rattle.reasons.specs.Sentences.{sentence_of, letter_of, is_end, text_of, sentence_text}
-use Rattle.reasons.proofs.Rows.{sentence-short}
+use Rattle.text.proofs.Pieces.{Rest}
+use Rattle.reasons.specs.Sentences.{sentence_of, is_end, text_of, sentence_text}
 use Rattle.reasons.proofs.sentence.put_sentence.Given as goal
 
 abbrev pub invariant-loop-i : goal.invariant-loop-i

@@ -1,7 +1,7 @@
 -- `decide::codes_whole` meets its contract: rules i), j) and k), each behind the one before it.
 use mathlib.Core.List.{List}
 use mathlib.Core.Path.{◌≡◌, sym, ap, ◌∙◌}
-use Prim.Native.Nat.{ℕ, min, ◌-◌, ◌*◌, ◌^◌, ◌<◌}
+use Prim.Native.Nat.{ℕ, min, ◌-◌}
 use native.Mathlib.Omega.{arith}
 use lib.ListN.{length}
 use Rattle.answers.specs.Listed.{checked}
@@ -17,7 +17,7 @@ use Rattle.layout.proofs.Ruled.{stops-by, goes_by}
 use Rattle.elements.specs.Elements.{codes_at, present_count, present_before}
 use Rattle.elements.specs.declared.head.Places.{Places}
 use Rattle.rules.proofs.Decided.{by-first-code}
-use Rattle.rules.proofs.Held.{few-codes, few-deviations, count-bytes}
+use Rattle.rules.proofs.Held.{few-codes}
 use Rattle.rules.specs.Rules.{codes_rule, rule_i, rule_j, rule_k}
 use Rattle.rules.specs.Turns.{turns_rule}
 use Rattle.elements.specs.Numbers.{refusal_of}

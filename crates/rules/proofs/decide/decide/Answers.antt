@@ -5,7 +5,7 @@ use Rattle.layout.specs.Size.{fit_ruled}
 use Rattle.elements.specs.Listed.{pack, verdict}
 use Rattle.elements.proofs.Opened.{opened-placed}
 use Rattle.deviations.specs.Range.{lent_rule}
-use Rattle.rules.proofs.Verdict.{first, early, later, all_pass}
+use Rattle.rules.proofs.Verdict.{early, later, all_pass}
 use Rattle.rules.proofs.decide.decide.Goals as goal
 use Rattle.rules.proofs.decide.decide.Goals.{In-Pack, In_default}
 

@@ -1,12 +1,7 @@
 -- `decide::deviations_held` meets its contract.
-use mathlib.Core.Path.{◌≡◌, sym, ap, ◌∙◌}
-use native.Mathlib.Nat.{le_trans}
-use native.Mathlib.Omega.{arith}
-use borrow.Author.Rules.{rules}
-use Rattle.elements.specs.Elements.{deviations_at, deviation_count}
-use Rattle.elements.specs.declared.head.Places.{Places}
+use mathlib.Core.Path.{sym, ◌∙◌}
+use Rattle.elements.specs.Elements.{deviation_count}
 use Rattle.rules.proofs.Decided.{by-first-deviation}
-use Rattle.rules.proofs.Held.{count-le, few-deviations}
 use Rattle.rules.proofs.decide.deviations_held.Goals as goal
 
 pub returns : goal.returns

@@ -1,6 +1,5 @@
 -- `judge::judge` meets its contract: a) to g), and then h) to k).
 use mathlib.Core.Path.{◌≡◌, ap}
-use borrow.Author.Rules.{rules}
 use Rattle.layout.specs.Ruled.{ruled}
 use Rattle.layout.specs.Size.{fit_ruled}
 use Rattle.elements.specs.Listed.{pack, verdict}

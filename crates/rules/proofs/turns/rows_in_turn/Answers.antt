@@ -1,15 +1,6 @@
 -- `turns::rows_in_turn` meets its contract: the rows before have passed.
-use mathlib.Core.Path.{◌≡◌, refl, sym, ap, ◌∙◌}
-use Prim.Native.Nat.{ℕ, ◌+◌, ◌-◌, ◌*◌, ◌≤◌, ◌<◌}
-use native.Mathlib.Nat.{le_trans, zero-mul, suc-mul, mul-le-mul_right}
-use native.Mathlib.Numerals.{add-one}
-use native.Mathlib.Omega.{arith}
-use borrow.Author.Rules.{rules}
-use Rattle.answers.specs.Table.{passes}
-use Rattle.layout.specs.Size.{max_rows}
-use Rattle.deviations.specs.Form.{form_listed}
-use Rattle.rules.specs.Decided.{form_rule}
-use Rattle.rules.proofs.Rows.{row-passes, row-stops}
+use mathlib.Core.Path.{◌∙◌}
+use Rattle.rules.proofs.Rows.{row-stops}
 use Rattle.rules.proofs.turns.rows_in_turn.Goals as goal
 
 pub returns-in_default : goal.returns-in_default

@@ -1,17 +1,16 @@
 -- `handed::pack_at` meets its contract: what comes next is pack k less the packs that are left to pass.
 use mathlib.Core.Path.{◌≡◌, refl, sym, ap, ◌∙◌}
 use mathlib.Core.List.{List}
-use Prim.Native.Nat.{ℕ, suc, ◌-◌, ◌≤◌}
+use Prim.Native.Nat.{ℕ, suc, ◌-◌}
 use native.Mathlib.Omega.{arith}
-use borrow.Author.Rules.{rules}
 use Rattle.answers.specs.Table.{Answer}
 use Rattle.sets.specs.declared.pack.PackPlace.{PackPlace}
 use Rattle.sets.specs.Items.{items_of}
-use Rattle.sets.specs.Packs.{packs_of, nth, next_pack}
+use Rattle.sets.specs.Packs.{packs_of, nth}
 use Rattle.sets.specs.Rules.{set_listed}
 use Rattle.sets.specs.Handed.{pack_at}
 use Rattle.sets.proofs.Next.{nth-none, next-nth}
-use Rattle.sets.proofs.Taken.{taken-packs, refused-packs}
+use Rattle.sets.proofs.Taken.{taken-packs}
 use Rattle.sets.proofs.handed.pack_at.Goals as goal
 use Rattle.sets.proofs.handed.pack_at.Goals.{At-loop-left}
 

@@ -2,7 +2,6 @@
 use mathlib.Core.Path.{◌≡◌, sym, ap, ◌∙◌}
 use Prim.Native.Nat.{◌+◌, ◌≤◌}
 use native.Mathlib.Omega.{arith}
-use borrow.Author.Rules.{rules}
 use borrow.Author.Rules.{part_to_end}
 use lib.ListN.{length, drop, length-drop, drop_of_length-le}
 use Rattle.numbers.specs.declared.ber_oid.BerOid.TheVariants.{Read}

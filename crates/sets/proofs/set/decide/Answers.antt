@@ -1,16 +1,15 @@
 -- `set::decide` meets its contract: what is counted up to a place, and the rules that are left.
 use mathlib.Core.Path.{◌≡◌, sym, ap, ◌∙◌}
-use Prim.Native.Nat.{◌+◌, ◌-◌}
+use Prim.Native.Nat.{◌+◌}
 use native.Mathlib.Omega.{arith}
 use borrow.Author.Rules.{rules}
-use lib.ListN.{length}
 use Rattle.answers.specs.Table.{Answer}
 use Rattle.answers.specs.Listed.{checked}
 use Rattle.sets.specs.declared.item.Item.TheVariants.{Read}
 use Rattle.sets.specs.Tags.{pack_count, tag_count}
 use Rattle.sets.specs.Items.{item_at}
 use Rattle.sets.proofs.Items.{item-tells}
-use Rattle.sets.proofs.Walk.{Walk, walk_none, walk-faulty, walk_refused, walk-on, walk-all}
+use Rattle.sets.proofs.Walk.{Walk, walk-faulty, walk_refused, walk-on, walk-all}
 use Rattle.sets.proofs.set.decide.Goals as goal
 use Rattle.sets.proofs.set.decide.Goals.{In-Read, In_default-check}
 

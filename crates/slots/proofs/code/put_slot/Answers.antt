@@ -1,6 +1,5 @@
 -- `code::put_slot` meets its contract: a number from -1 to 1 has a code, whose bytes come back with the lent part.
-use borrow.Author.Rules.{rules}
-use Rattle.slots.proofs.Coded.{code-value, code-never}
+use Rattle.slots.proofs.Coded.{code-value}
 use Rattle.slots.proofs.Runs.{part-written}
 use Rattle.slots.proofs.code.put_slot.Goals as goal
 

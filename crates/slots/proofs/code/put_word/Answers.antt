@@ -1,5 +1,4 @@
 -- `code::put_word` meets its contract: the word's bytes come back with the lent part.
-use borrow.Author.Rules.{rules}
 use Rattle.slots.proofs.Runs.{part-written}
 use Rattle.slots.proofs.code.put_word.Goals as goal
 

@@ -2,9 +2,8 @@
 -- last word left.
 use Prim.Native.Nat.{◌+◌, ◌-◌, ◌*◌, ◌≤◌}
 use native.Mathlib.Omega.{arith}
-use borrow.Author.Rules.{rules}
 use lib.ListN.{length}
-use Rattle.slots.proofs.AllSlots.{room-each, room-words, room-last, each_all, words-each}
+use Rattle.slots.proofs.AllSlots.{room-each, room-words, room-last, words-each}
 use Rattle.slots.proofs.full.write_all.Goals as goal
 use Rattle.slots.proofs.full.write_all.Goals.{After-write_words}
 

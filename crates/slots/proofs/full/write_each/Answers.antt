@@ -1,8 +1,8 @@
 -- `full::write_each` meets its contract: each turn writes the next correlation's code behind those before it.
-use Prim.Native.Nat.{◌+◌, ◌-◌, ◌≤◌}
+use Prim.Native.Nat.{◌+◌, ◌≤◌}
 use native.Mathlib.Omega.{arith}
 use lib.ListN.{length}
-use Rattle.slots.proofs.AllSlots.{Last, last_none, last-room, last_more, last_done}
+use Rattle.slots.proofs.AllSlots.{last_none, last-room, last_more}
 use Rattle.slots.proofs.full.write_each.Goals as goal
 use Rattle.slots.proofs.full.write_each.Goals.{In-loop-k}
 

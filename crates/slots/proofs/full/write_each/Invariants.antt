@@ -1,7 +1,6 @@
-use Prim.Native.Nat.{◌+◌, ◌-◌, ◌≤◌}
-use native.Mathlib.Omega.{arith}
+use Prim.Native.Nat.{◌-◌}
 use lib.ListN.{length}
-use Rattle.slots.proofs.AllSlots.{Last, last_none, last-room, last_more, last_done}
+use Rattle.slots.proofs.AllSlots.{Last}
 use Rattle.slots.proofs.full.write_each.Given as goal
 
 abbrev pub invariant-loop-k : goal.invariant-loop-k

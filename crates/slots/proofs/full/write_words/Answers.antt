@@ -1,9 +1,9 @@
 -- `full::write_words` meets its contract: each turn writes the next correlation's word behind the codes before it, over
 -- what the word before it left.
-use Prim.Native.Nat.{◌+◌, ◌-◌, ◌≤◌}
+use Prim.Native.Nat.{◌+◌, ◌≤◌}
 use native.Mathlib.Omega.{arith}
 use lib.ListN.{length}
-use Rattle.slots.proofs.AllSlots.{First, first-none, first-room, first_more, first_done}
+use Rattle.slots.proofs.AllSlots.{first-room, first_more}
 use Rattle.slots.proofs.full.write_words.Goals as goal
 use Rattle.slots.proofs.full.write_words.Goals.{In-loop-k}
 

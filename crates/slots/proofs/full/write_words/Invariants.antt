@@ -1,7 +1,5 @@
-use Prim.Native.Nat.{◌+◌, ◌-◌, ◌≤◌}
-use native.Mathlib.Omega.{arith}
-use lib.ListN.{length}
-use Rattle.slots.proofs.AllSlots.{First, first-none, first-room, first_more, first_done}
+use Prim.Native.Nat.{◌-◌}
+use Rattle.slots.proofs.AllSlots.{First}
 use Rattle.slots.proofs.full.write_words.Given as goal
 
 abbrev pub invariant-loop-k : goal.invariant-loop-k

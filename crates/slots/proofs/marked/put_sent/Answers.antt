@@ -1,10 +1,9 @@
 -- `marked::put_sent` meets its contract: a correlation that is 0 has neither bit nor code.
-use mathlib.Core.Path.{◌≡◌, refl}
+use mathlib.Core.Path.{◌≡◌}
 use mathlib.Core.Bool.{false}
-use borrow.Author.Rules.{rules}
 use Rattle.numbers.proofs.Bytes.{length-bytes}
 use Rattle.plan.specs.Zero.{is_zero}
-use Rattle.slots.proofs.Sparse.{is_one, not-one}
+use Rattle.slots.proofs.Sparse.{not-one}
 use Rattle.slots.proofs.marked.put_sent.Goals as goal
 use Rattle.slots.proofs.marked.put_sent.Goals.{Else-zero_of-eq1}
 

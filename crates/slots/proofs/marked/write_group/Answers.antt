@@ -1,12 +1,9 @@
 -- `marked::write_group` meets its contract: each turn writes the next slot's code, if it is sent, behind those before
 -- it, and appends its bit.
-use mathlib.Core.Path.{refl}
-use Prim.Native.Nat.{◌+◌, ◌-◌, ◌*◌, ◌≤◌, ◌<◌}
+use Prim.Native.Nat.{◌+◌, ◌*◌, ◌<◌}
 use native.Mathlib.Omega.{arith}
-use borrow.Author.Rules.{rules}
-use lib.ListN.{length}
-use Rattle.answers.proofs.Runs.{run_none, run_room}
-use Rattle.slots.proofs.Sparse.{Eight, eight-byte, eight-room, eight-more, eight-done}
+use Rattle.answers.proofs.Runs.{run_room}
+use Rattle.slots.proofs.Sparse.{eight-byte, eight-more}
 use Rattle.slots.proofs.marked.write_group.Goals as goal
 use Rattle.slots.proofs.marked.write_group.Goals.{After-put_sent-bit}
 

@@ -1,10 +1,5 @@
-use mathlib.Core.Path.{refl}
-use Prim.Native.Nat.{◌+◌, ◌-◌, ◌*◌, ◌≤◌, ◌<◌}
-use native.Mathlib.Omega.{arith}
-use borrow.Author.Rules.{rules}
-use lib.ListN.{length}
-use Rattle.answers.proofs.Runs.{run_none, run_room}
-use Rattle.slots.proofs.Sparse.{Eight, eight-byte, eight-room, eight-more, eight-done}
+use Prim.Native.Nat.{◌-◌}
+use Rattle.slots.proofs.Sparse.{Eight}
 use Rattle.slots.proofs.marked.write_group.Given as goal
 
 abbrev pub invariant-loop-j : goal.invariant-loop-j

@@ -1,12 +1,11 @@
 -- `marked::write_group_words` meets its contract: each turn adds the bit of the next slot, if it is sent, to their
 -- byte, and puts its word over what the one before it left.
 use mathlib.Core.Path.{◌∙◌}
-use mathlib.Core.Logic.{⊎_elim}
-use Prim.Native.Nat.{◌+◌, ◌-◌, ◌*◌, ◌≤◌, ◌<◌}
+use Prim.Native.Nat.{◌+◌, ◌*◌, ◌≤◌}
 use native.Mathlib.Omega.{arith}
 use lib.ListN.{length, set, length-set}
 use lib.Seq.{set-set}
-use Rattle.slots.proofs.SentWords.{EightWords, words-start, words_long, words-room, words-place, words-byte, words-one, words-none, words-done}
+use Rattle.slots.proofs.SentWords.{words_long, words-room, words-byte, words-one, words-none, words-done}
 use Rattle.slots.proofs.marked.write_group_words.Goals as goal
 use Rattle.slots.proofs.marked.write_group_words.Goals.{then-correlations-from-ne0, else-correlations-from-ne0, In-loop-j, Start}
 
@@ -35,7 +34,7 @@ pub loop-j-preserved : goal.loop-j-preserved
 loop-j-preserved c =
     let s = (goal.at.loop-j-preserved c).Start in let i = c.loop-j.invariant in
     elim c.if-correlations-from-ne0.branch [
-        then-correlations-from-ne0 w ↦ words-one i c.loop-j-test.true s.requires.0.clen (room₀ s) w.if-correlations-from-ne0.true s.requires.0.values (w.out-is ∙ w.put_word.ensures) w.next-is
+      | then-correlations-from-ne0 w ↦ words-one i c.loop-j-test.true s.requires.0.clen (room₀ s) w.if-correlations-from-ne0.true s.requires.0.values (w.out-is ∙ w.put_word.ensures) w.next-is
       | else-correlations-from-ne0 w ↦ words-none i c.loop-j-test.true s.requires.0.clen (room₀ s) w.if-correlations-from-ne0.false w.out-is w.next-is
     ]
 

@@ -1,10 +1,5 @@
-use mathlib.Core.Path.{◌∙◌}
-use mathlib.Core.Logic.{⊎_elim}
-use Prim.Native.Nat.{◌+◌, ◌-◌, ◌*◌, ◌≤◌, ◌<◌}
-use native.Mathlib.Omega.{arith}
-use lib.ListN.{length, set, length-set}
-use lib.Seq.{set-set}
-use Rattle.slots.proofs.SentWords.{EightWords, words-start, words_long, words-room, words-place, words-byte, words-one, words-none, words-done}
+use Prim.Native.Nat.{◌-◌}
+use Rattle.slots.proofs.SentWords.{EightWords}
 use Rattle.slots.proofs.marked.write_group_words.Given as goal
 
 abbrev pub invariant-loop-j : goal.invariant-loop-j

@@ -2,7 +2,6 @@
 -- written each.
 use mathlib.Core.Bool.{true}
 use native.Mathlib.Omega.{arith}
-use borrow.Author.Rules.{rules}
 use lib.Seq.{length-sets}
 use Rattle.slots.proofs.Lengths.{length-3}
 use Rattle.slots.proofs.SentWords.{rest-room, sent-whole}

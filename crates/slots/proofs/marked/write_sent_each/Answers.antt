@@ -1,9 +1,7 @@
 -- `marked::write_sent_each` meets its contract: each turn writes eight slots' codes behind those before them, and their
 -- byte of the Bit Vector.
-use Prim.Native.Nat.{◌+◌, ◌-◌, ◌<◌}
 use native.Mathlib.Omega.{arith}
-use lib.ListN.{length}
-use Rattle.slots.proofs.Sparse.{Sent, sent-none, sent-long, sent-room, sent-place, sent-more, sent-done}
+use Rattle.slots.proofs.Sparse.{sent-none, sent-room, sent-more, sent-done}
 use Rattle.slots.proofs.marked.write_sent_each.Goals as goal
 
 pub loop-i-init : goal.loop-i-init

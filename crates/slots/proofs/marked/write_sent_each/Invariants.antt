@@ -1,7 +1,5 @@
-use Prim.Native.Nat.{◌+◌, ◌-◌, ◌<◌}
-use native.Mathlib.Omega.{arith}
-use lib.ListN.{length}
-use Rattle.slots.proofs.Sparse.{Sent, sent-none, sent-long, sent-room, sent-place, sent-more, sent-done}
+use Prim.Native.Nat.{◌-◌}
+use Rattle.slots.proofs.Sparse.{Sent}
 use Rattle.slots.proofs.marked.write_sent_each.Given as goal
 
 abbrev pub invariant-loop-i : goal.invariant-loop-i

@@ -1,9 +1,9 @@
 -- `marked::write_sent_words` meets its contract: each turn puts eight slots' words over what those before them left,
 -- and their byte of the Bit Vector.
-use Prim.Native.Nat.{◌-◌, ◌/◌, ◌<◌}
+use Prim.Native.Nat.{◌/◌, ◌<◌}
 use native.Mathlib.Omega.{arith}
 use lib.ListN.{length}
-use Rattle.slots.proofs.SentWords.{SentWords, sent-words-none, sent-words-long, sent-words-left, sent-words-place, sent-words-more, sent-words-done}
+use Rattle.slots.proofs.SentWords.{SentWords, sent-words-none, sent-words-long, sent-words-left, sent-words-place, sent-words-more}
 use Rattle.slots.proofs.marked.write_sent_words.Goals as goal
 use Rattle.slots.proofs.marked.write_sent_words.Goals.{In-loop-next, Start}
 

@@ -1,7 +1,6 @@
-use Prim.Native.Nat.{◌-◌, ◌/◌, ◌<◌}
-use native.Mathlib.Omega.{arith}
+use Prim.Native.Nat.{◌-◌, ◌/◌}
 use lib.ListN.{length}
-use Rattle.slots.proofs.SentWords.{SentWords, sent-words-none, sent-words-long, sent-words-left, sent-words-place, sent-words-more, sent-words-done}
+use Rattle.slots.proofs.SentWords.{SentWords}
 use Rattle.slots.proofs.marked.write_sent_words.Given as goal
 
 abbrev pub invariant-loop-next : goal.invariant-loop-next

@@ -1,16 +1,13 @@
 -- `write::write_slots` meets its contract: the plan's refusal, or the room's, or the slots by the plan.
-use mathlib.Core.Path.{◌≡◌, refl, sym, ap, ◌∙◌}
+use mathlib.Core.Path.{◌≡◌, sym, ap, ◌∙◌}
 use lib.ListN.{length}
 use Rattle.answers.specs.Table.{Answer}
 use Rattle.plan.specs.declared.places.Plan.{Plan}
-use Rattle.answers.specs.Outcome.{Outcome}
 use Rattle.plan.specs.Listed.{plan_listed}
 use Rattle.plan.specs.Places.{pack_plan}
 use Rattle.plan.specs.Rules.{plan_rules}
 use Rattle.answers.proofs.Outcome.{found-tells}
-use Rattle.slots.specs.Listed.{slots_left}
 use Rattle.slots.proofs.Lengths.{slots-fit}
-use Rattle.slots.proofs.Ordered.{plan-stop, room-stop, all_pass}
 use Rattle.slots.proofs.write.write_slots.Goals as goal
 use Rattle.slots.proofs.write.write_slots.Goals.{After-struct_known-1, Start}
 

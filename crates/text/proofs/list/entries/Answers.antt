@@ -1,10 +1,7 @@
 -- `list::entries` meets its contract. The invariant: what is left to read answers and stores as all of it.
 use mathlib.Core.Path.{sym, ◌∙◌}
-use Prim.Native.Nat.{◌-◌}
 use native.Mathlib.Omega.{arith}
-use borrow.Author.Rules.{rules}
-use lib.ListN.{length}
-use Rattle.text.proofs.Entered.{Entered, entered-none, entered-more, entered-bad, entered_all}
+use Rattle.text.proofs.Entered.{entered-more, entered-bad, entered_all}
 use Rattle.text.proofs.list.entries.Goals as goal
 
 pub returns-in_default-clause-value : goal.returns-in_default-clause-value

@@ -1,9 +1,6 @@
-use mathlib.Core.Path.{sym, ◌∙◌}
 use Prim.Native.Nat.{◌-◌}
-use native.Mathlib.Omega.{arith}
-use borrow.Author.Rules.{rules}
 use lib.ListN.{length}
-use Rattle.text.proofs.Entered.{Entered, entered-none, entered-more, entered-bad, entered_all}
+use Rattle.text.proofs.Entered.{Entered}
 use Rattle.text.proofs.list.entries.Given as goal
 
 abbrev pub invariant-loop-i : goal.invariant-loop-i

@@ -1,10 +1,9 @@
 -- `list::list` meets its contract: the entries are read into the room's front.
 use mathlib.Core.Path.{◌≡◌, sym, ◌∙◌}
-use borrow.Author.Rules.{rules}
 use lib.ListN.{length}
 use Rattle.text.specs.declared.numeral.Numeral.TheVariants.{Read}
 use Rattle.text.specs.Numeral.{decimal_up_to}
-use Rattle.text.proofs.Entered.{listed-within, listed-front, listed-all}
+use Rattle.text.proofs.Entered.{listed-all}
 use Rattle.text.proofs.list.list.Goals as goal
 use Rattle.text.proofs.list.list.Goals.{In-Read}
 

@@ -1,10 +1,5 @@
 -- `marks::changed` meets its contract. The invariant: what is left to look at answers for all of it.
-use mathlib.Core.Path.{refl}
-use Prim.Native.Nat.{◌-◌}
-use native.Mathlib.Omega.{arith}
-use borrow.Author.Rules.{rules}
-use Rattle.text.specs.Marks.{byte_mark}
-use Rattle.text.proofs.Marked.{Passed, passed-within, passed-more, passed-found, passed-done}
+use Rattle.text.proofs.Marked.{passed-found}
 use Rattle.text.proofs.marks.changed.Goals as goal
 
 pub returns-then-lent-i : goal.returns-then-lent-i

@@ -1,13 +1,9 @@
 -- `marks::mark` meets its contract: each turn marks the next entry.
 use mathlib.Core.Path.{refl}
-use mathlib.Core.List.{append-nil}
-use Prim.Native.Nat.{◌-◌}
 use native.Mathlib.Omega.{arith}
-use borrow.Author.Rules.{rules}
-use lib.ListN.{length, drop_of_length-le}
-use Rattle.answers.proofs.Lent.{Front, length-tab}
-use Rattle.answers.proofs.Tab.{tab-none, tab-more, tab-done}
-use Rattle.text.specs.Marks.{byte_mark, marked}
+use lib.ListN.{length}
+use Rattle.answers.proofs.Tab.{tab-none, tab-more}
+use Rattle.text.specs.Marks.{byte_mark}
 use Rattle.text.proofs.marks.mark.Goals as goal
 
 pub loop-i-init : goal.loop-i-init

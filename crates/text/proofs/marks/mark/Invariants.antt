@@ -1,11 +1,6 @@
-use mathlib.Core.Path.{refl}
-use mathlib.Core.List.{append-nil}
 use Prim.Native.Nat.{◌-◌}
-use native.Mathlib.Omega.{arith}
-use borrow.Author.Rules.{rules}
-use lib.ListN.{length, drop_of_length-le}
-use Rattle.answers.proofs.Lent.{Front, length-tab}
-use Rattle.answers.proofs.Tab.{tab-none, tab-more, tab-done}
+use lib.ListN.{length}
+use Rattle.answers.proofs.Lent.{Front}
 use Rattle.text.specs.Marks.{byte_mark, marked}
 use Rattle.text.proofs.marks.mark.Given as goal
 

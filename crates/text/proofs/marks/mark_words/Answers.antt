@@ -1,12 +1,8 @@
 -- `marks::mark_words` meets its contract: each turn marks the next of the first words.
-use mathlib.Core.Path.{◌≡◌, refl}
-use Prim.Native.Nat.{◌-◌, min}
+use mathlib.Core.Path.{refl}
 use native.Mathlib.Omega.{arith}
-use borrow.Author.Rules.{rules}
-use lib.ListN.{length}
-use Rattle.answers.proofs.Lent.{Front}
-use Rattle.answers.proofs.Tab.{tab-none, tab-room, tab-more, tab-done}
-use Rattle.text.specs.Marks.{word_mark, marked}
+use Rattle.answers.proofs.Tab.{tab-none, tab-more, tab-done}
+use Rattle.text.specs.Marks.{word_mark}
 use Rattle.text.proofs.marks.mark_words.Goals as goal
 
 pub loop-i-init : goal.loop-i-init

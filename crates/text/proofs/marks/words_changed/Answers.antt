@@ -1,10 +1,5 @@
 -- `marks::words_changed` meets its contract. The invariant: what is left to look at answers for all of it.
-use mathlib.Core.Path.{refl}
-use Prim.Native.Nat.{◌-◌}
-use native.Mathlib.Omega.{arith}
-use borrow.Author.Rules.{rules}
-use Rattle.text.specs.Marks.{word_mark}
-use Rattle.text.proofs.Marked.{Passed, passed-within, passed-more, passed-found, passed-done}
+use Rattle.text.proofs.Marked.{passed-found}
 use Rattle.text.proofs.marks.words_changed.Goals as goal
 
 pub returns-then-lent-i : goal.returns-then-lent-i

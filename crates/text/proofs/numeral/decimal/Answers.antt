@@ -1,14 +1,11 @@
 -- `numeral::decimal` meets its contract. The invariant: what is left of the line, behind the value, reads as all of it.
-use mathlib.Core.Path.{◌≡◌, refl}
+use mathlib.Core.Path.{◌≡◌}
 use mathlib.Core.Bool.{true}
-use Prim.Native.Nat.{◌-◌}
 use native.Mathlib.Omega.{arith}
-use borrow.Author.Rules.{rules}
-use borrow.Author.Tests.{lt-ltb, le-ltb}
+use borrow.Author.Tests.{lt-ltb}
 use lib.Dec.{ltb}
-use lib.ListN.{length}
 use Rattle.text.specs.Numeral.{digit_at}
-use Rattle.text.proofs.Line.{Reading, reading-within, reading-over, reading-more, reading-done}
+use Rattle.text.proofs.Line.{reading-within, reading-over, reading-more}
 use Rattle.text.proofs.numeral.decimal.Goals as goal
 use Rattle.text.proofs.numeral.decimal.Goals.{Else-d-gt9}
 

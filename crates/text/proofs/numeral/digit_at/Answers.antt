@@ -1,6 +1,5 @@
 -- `numeral::digit_at` meets its contract.
 use mathlib.Core.Path.{sym}
-use borrow.Author.Rules.{rules}
 use Rattle.text.proofs.Line.{none-past}
 use Rattle.text.proofs.numeral.digit_at.Goals as goal
 

@@ -1,10 +1,7 @@
 -- `numeral::hex` meets its contract. The invariant: what is left of the line, behind the value, reads as all of it.
-use mathlib.Core.Path.{◌≡◌, refl, sym, ◌∙◌}
-use Prim.Native.Nat.{◌-◌, ◌<◌, suc}
+use mathlib.Core.Path.{◌≡◌, sym, ◌∙◌}
+use Prim.Native.Nat.{◌-◌, suc}
 use native.Mathlib.Omega.{arith}
-use borrow.Author.Rules.{rules}
-use lib.ListN.{drop}
-use Rattle.text.specs.Numeral.{digit_at, hex_from}
 use Rattle.text.proofs.Line.{digit-within, hex-more, hex-none}
 use Rattle.text.proofs.numeral.hex.Goals as goal
 

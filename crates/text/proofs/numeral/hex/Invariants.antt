@@ -1,10 +1,6 @@
-use mathlib.Core.Path.{◌≡◌, refl, sym, ◌∙◌}
-use Prim.Native.Nat.{◌-◌, ◌<◌, suc}
-use native.Mathlib.Omega.{arith}
-use borrow.Author.Rules.{rules}
+use mathlib.Core.Path.{◌≡◌}
 use lib.ListN.{drop}
-use Rattle.text.specs.Numeral.{digit_at, hex_from}
-use Rattle.text.proofs.Line.{digit-within, hex-more, hex-none}
+use Rattle.text.specs.Numeral.{hex_from}
 use Rattle.text.proofs.numeral.hex.Given as goal
 
 abbrev pub invariant-loop-left : goal.invariant-loop-left

@@ -1,5 +1,4 @@
 -- `numeral::worth_of` meets its contract: the tests in turn.
-use borrow.Author.Rules.{rules}
 use borrow.Author.Tests.{lt-ltb, le-ltb, le-leb, lt-leb}
 use native.Mathlib.Omega.{arith}
 use Rattle.text.specs.Numeral.{worth}

@@ -1,5 +1,4 @@
 -- `put::put_bits` meets its contract: the digits behind the space.
-use borrow.Author.Rules.{rules}
 use Rattle.text.specs.Text.{hex}
 use Rattle.text.proofs.Pieces.{put_then}
 use Rattle.text.proofs.put.put_bits.Goals as goal

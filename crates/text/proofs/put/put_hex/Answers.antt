@@ -3,10 +3,9 @@ use mathlib.Core.Path.{◌≡◌}
 use mathlib.Core.List.{[], ◌∷◌}
 use Prim.Native.Nat.{◌-◌, suc}
 use native.Mathlib.Omega.{arith}
-use borrow.Author.Rules.{rules}
 use Rattle.text.specs.Text.{figures}
 use Rattle.text.proofs.Figures.{hex-more}
-use Rattle.text.proofs.Pieces.{Rest, rest_all, rest_more, rest-done}
+use Rattle.text.proofs.Pieces.{rest_all, rest_more}
 use Rattle.text.proofs.put.put_hex.Goals as goal
 
 pub loop-left-init : goal.loop-left-init

@@ -1,11 +1,5 @@
-use mathlib.Core.Path.{◌≡◌}
-use mathlib.Core.List.{[], ◌∷◌}
-use Prim.Native.Nat.{◌-◌, suc}
-use native.Mathlib.Omega.{arith}
-use borrow.Author.Rules.{rules}
 use Rattle.text.specs.Text.{figures}
-use Rattle.text.proofs.Figures.{hex-more}
-use Rattle.text.proofs.Pieces.{Rest, rest_all, rest_more, rest-done}
+use Rattle.text.proofs.Pieces.{Rest}
 use Rattle.text.proofs.put.put_hex.Given as goal
 
 abbrev pub invariant-loop-left : goal.invariant-loop-left

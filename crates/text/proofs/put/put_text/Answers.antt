@@ -1,10 +1,6 @@
 -- `put::put_text` meets its contract: each turn puts the next byte.
-use mathlib.Core.Path.{refl}
-use Prim.Native.Nat.{◌-◌}
-use borrow.Author.Rules.{rules}
-use lib.ListN.{length, take}
-use lib.Seq.{take-suc, take-length}
-use Rattle.text.proofs.Pieces.{Puts, puts_none, puts-more, puts-done, put-long}
+use lib.Seq.{take-suc}
+use Rattle.text.proofs.Pieces.{puts-more}
 use Rattle.text.proofs.put.put_text.Goals as goal
 
 pub loop-i-preserved : goal.loop-i-preserved

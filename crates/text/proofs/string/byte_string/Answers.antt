@@ -1,10 +1,7 @@
 -- `string::byte_string` meets its contract. The invariant: what is left to read counts and stores as all of it.
 use mathlib.Core.Path.{sym, ◌∙◌}
-use Prim.Native.Nat.{◌-◌}
 use native.Mathlib.Omega.{arith}
-use borrow.Author.Rules.{rules}
-use lib.ListN.{length}
-use Rattle.text.proofs.Spelled.{Spelled, spelled_none, spelled-more, spelled-end, spelled_out}
+use Rattle.text.proofs.Spelled.{spelled-more, spelled-end}
 use Rattle.text.proofs.string.byte_string.Goals as goal
 
 pub returns-in_default-clause-value : goal.returns-in_default-clause-value

@@ -1,9 +1,6 @@
-use mathlib.Core.Path.{sym, ◌∙◌}
 use Prim.Native.Nat.{◌-◌}
-use native.Mathlib.Omega.{arith}
-use borrow.Author.Rules.{rules}
 use lib.ListN.{length}
-use Rattle.text.proofs.Spelled.{Spelled, spelled_none, spelled-more, spelled-end, spelled_out}
+use Rattle.text.proofs.Spelled.{Spelled}
 use Rattle.text.proofs.string.byte_string.Given as goal
 
 abbrev pub invariant-loop-count : goal.invariant-loop-count

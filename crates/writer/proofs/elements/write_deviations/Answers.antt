@@ -1,11 +1,10 @@
 -- `elements::write_deviations` meets its contract: each turn writes the next deviation's four bytes behind those before
 -- it.
-use Prim.Native.Nat.{◌+◌, ◌-◌, ◌≤◌}
+use Prim.Native.Nat.{◌+◌, ◌≤◌}
 use native.Mathlib.Omega.{arith}
 use lib.ListN.{length}
-use Rattle.answers.proofs.Runs.{Run, run_none, run_room, run_more, run-done}
+use Rattle.answers.proofs.Runs.{run_none, run_room, run_more}
 use Rattle.numbers.proofs.Bytes.{length-bytes}
-use Rattle.writer.specs.Pack.{deviation_bytes}
 use Rattle.writer.proofs.Lengths.{length-4}
 use Rattle.slots.proofs.Runs.{part-written}
 use Rattle.writer.proofs.elements.write_deviations.Goals as goal

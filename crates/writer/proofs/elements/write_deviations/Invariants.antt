@@ -1,12 +1,7 @@
-use Prim.Native.Nat.{◌+◌, ◌-◌, ◌≤◌}
-use native.Mathlib.Omega.{arith}
-use borrow.Author.Rules.{rules}
+use Prim.Native.Nat.{◌-◌}
 use lib.ListN.{length}
-use Rattle.answers.proofs.Runs.{Run, run_none, run_room, run_more, run-done}
-use Rattle.numbers.proofs.Bytes.{length-bytes}
+use Rattle.answers.proofs.Runs.{Run}
 use Rattle.writer.specs.Pack.{deviation_bytes}
-use Rattle.writer.proofs.Lengths.{length-4}
-use Rattle.slots.proofs.Runs.{part-written}
 use Rattle.writer.proofs.elements.write_deviations.Given as goal
 
 abbrev pub invariant-loop-i : goal.invariant-loop-i

@@ -1,10 +1,7 @@
 -- `elements::write_head` meets its contract: there is room, so that N is written, and the control behind it.
-use mathlib.Core.Path.{◌≡◌}
 use native.Mathlib.Omega.{arith}
-use lib.ListN.{length, length-set}
-use Rattle.numbers.specs.BerOid.{oid_length}
 use Rattle.writer.specs.Pack.{control_byte}
-use Rattle.writer.proofs.Head.{head_never, head-size, head-long, head-stored}
+use Rattle.writer.proofs.Head.{head-stored}
 use Rattle.writer.proofs.elements.write_head.Goals as goal
 
 pub returns : goal.returns

@@ -3,7 +3,6 @@ use mathlib.Core.Path.{◌≡◌, sym, ap, ◌∙◌}
 use mathlib.Core.List.{List}
 use Prim.Native.Nat.{ℕ}
 use lib.ListN.{length}
-use lib.Seq.{length-sets}
 use Rattle.answers.specs.Table.{Answer}
 use Rattle.answers.proofs.OneToOne.{refused-not-done}
 use Rattle.plan.specs.declared.places.Plan.{Plan}
@@ -14,7 +13,7 @@ use Rattle.plan.proofs.Counts.{both-pass}
 use Rattle.answers.proofs.Outcome.{found-tells, refused-tells}
 use Rattle.slots.specs.Listed.{slots_left, slots_over}
 use Rattle.slots.specs.Rules.{slots_rules}
-use Rattle.writer.proofs.Packed.{plan-end, others-room, packed}
+use Rattle.writer.proofs.Packed.{plan-end, packed}
 use Rattle.writer.proofs.Whole.{slots-stop, slots-pass, all_pass}
 use Rattle.writer.proofs.write.encode_sdcc_flp_mode2.Goals as goal
 use Rattle.writer.proofs.write.encode_sdcc_flp_mode2.Goals.{In-Done, Start}
