@@ -1,8 +1,9 @@
 //! Does one operation of the codec over and over, so that its cost can be measured (bench/run):
 //! pace OP N CLEN KIND REPS.
 #![tactic(auto)]
+
 mod cells;
-mod codes;
+mod coded;
 mod figure;
 mod job;
 mod sample;
@@ -38,7 +39,7 @@ fn make_pack(job: Job, deviations: &[u64], correlations: &[u64], room: &mut [u8]
     let written = turns::write(deviations, correlations, job.clen, room);
     let length = within(length_of(written), room);
     if let Kind::Specials = kind {
-        codes::over_last(correlations.len(), job.clen, &mut room[..length]);
+        coded::over_last(correlations.len(), job.clen, &mut room[..length]);
     }
     length
 }

@@ -1,7 +1,7 @@
 //! The repetitions.
 use crate::figure::REFUSED;
 use crate::job::{Job, Op};
-use crate::{cells, codes, figure};
+use crate::{cells, coded, figure};
 use layout::size::{Peek, peek_matrix_size};
 use npy::import::import_npy;
 use npy_export::export::export_npy;
@@ -64,8 +64,8 @@ fn each(
     pack: &mut [u8],
 ) -> u64 {
     let slots = read(pack, deviations, correlations, states);
-    let values = codes::of_values(correlations, clen, pack);
-    let specials = codes::of_specials(correlations.len(), clen, pack);
+    let values = coded::of_values(correlations, clen, pack);
+    let specials = coded::of_specials(correlations.len(), clen, pack);
     let length = write(deviations, correlations, clen, pack);
     let rows = peek(pack);
     let cells = cells::of_matrix(deviations, correlations);
@@ -87,8 +87,8 @@ fn once(
         Op::Write => write(deviations, correlations, job.clen, pack),
         Op::Peek => peek(pack),
         Op::Cell => cells::of_matrix(deviations, correlations),
-        Op::Value => codes::of_values(correlations, job.clen, pack),
-        Op::Special => codes::of_specials(correlations.len(), job.clen, pack),
+        Op::Value => coded::of_values(correlations, job.clen, pack),
+        Op::Special => coded::of_specials(correlations.len(), job.clen, pack),
         Op::ToNpy => to_npy(deviations, correlations, pack),
         Op::FromNpy => from_npy(pack, deviations, correlations, states),
         Op::Each => each(job.clen, deviations, correlations, states, pack),

@@ -1,5 +1,6 @@
 //! The reader of SDCC-FLP packs: `decode_sdcc_flp`.
 #![tactic(auto)]
+
 mod fill;
 mod plain;
 pub mod read;

@@ -8,11 +8,7 @@ use text::put::put_byte;
 pub(crate) const HELD: usize = 65_536;
 
 // The block's bytes are read anew. The input's end ends a line that was begun, as a newline does.
-pub(crate) fn refill<R: Read>(
-    reader: &mut R,
-    block: &mut [u8],
-    read: usize,
-) -> io::Result<usize> {
+pub(crate) fn refill<R: Read>(reader: &mut R, block: &mut [u8], read: usize) -> io::Result<usize> {
     let count = reader.read(block)?;
     if count == 0 {
         if 0 < read {

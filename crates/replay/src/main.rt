@@ -1,5 +1,6 @@
 //! Answers requests: a line of standard input each, and a line of standard output for each.
 #![tactic(auto)]
+
 mod answer;
 mod cells;
 mod files;

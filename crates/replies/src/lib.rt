@@ -1,5 +1,6 @@
 //! A reply to a request: a form, and the values that its letters stand for.
 #![tactic(auto)]
+
 pub mod forms;
 pub mod kind;
 pub mod mapped;

@@ -1,5 +1,6 @@
 //! Which bytes the program prints for which input.
 #![tactic(auto)]
+
 pub mod answer;
 mod pack;
 pub mod print;

@@ -1,5 +1,6 @@
 //! What stands behind a reply: bytes, the lines of a pack, and whether lent memory was touched, a list of tags too.
 #![tactic(auto)]
+
 pub mod bytes;
 pub mod lines;
 pub mod pack;

@@ -1,3 +1,4 @@
 //! Which bytes the program `why` prints for which input.
 #![tactic(auto)]
+
 pub mod print;

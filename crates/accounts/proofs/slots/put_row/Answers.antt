@@ -1,14 +1,11 @@
 -- `slots::put_row` meets its contract: each turn puts the next slot behind those before it.
 use mathlib.Core.Path.{◌≡◌, refl, ap, ◌∙◌}
-use mathlib.Core.List.{◌++◌}
 use Prim.Native.Nat.{◌+◌, ◌-◌, ◌<◌}
 use native.Mathlib.Omega.{arith}
-use Rattle.answers.specs.Lent.{joined}
-use Rattle.layout.specs.Triangle.{slots_of, slot_of}
-use Rattle.layout.proofs.Along.{Along, along-none, none_passed, along-more, one_more, the-next, passed-below, slot_at, slot-below}
-use Rattle.explain.specs.Slots.{code_at, slot_code}
-use Rattle.text.proofs.Pieces.{Puts, puts_none, puts-more, puts-done, put-long}
-use Rattle.parts.specs.Parts.{gap, slot_text}
+use Rattle.layout.specs.Triangle.{slots_of}
+use Rattle.layout.proofs.Along.{along-none, none_passed, along-more, one_more, the-next, passed-below, slot_at, slot-below}
+use Rattle.explain.specs.Slots.{code_at}
+use Rattle.text.proofs.Pieces.{puts_none, puts-more, puts-done}
 use Rattle.accounts.proofs.Told.{is-slot, slot-behind, slots-fit}
 use Rattle.accounts.proofs.slots.put_row.Goals as goal
 use Rattle.accounts.proofs.slots.put_row.Goals.{In-loop-j}

@@ -1,15 +1,12 @@
-use mathlib.Core.Path.{◌≡◌, refl, ap, ◌∙◌}
+use mathlib.Core.Path.{◌≡◌}
 use mathlib.Core.List.{◌++◌}
-use Prim.Native.Nat.{◌+◌, ◌-◌, ◌<◌}
-use native.Mathlib.Omega.{arith}
-use borrow.Author.Rules.{rules}
+use Prim.Native.Nat.{◌+◌, ◌-◌}
 use Rattle.answers.specs.Lent.{joined}
-use Rattle.layout.specs.Triangle.{slots_of, slot_of}
-use Rattle.layout.proofs.Along.{Along, along-none, none_passed, along-more, one_more, the-next, passed-below, slot_at, slot-below}
+use Rattle.layout.specs.Triangle.{slot_of}
+use Rattle.layout.proofs.Along.{Along}
 use Rattle.explain.specs.Slots.{code_at, slot_code}
-use Rattle.text.proofs.Pieces.{Puts, puts_none, puts-more, puts-done, put-long}
+use Rattle.text.proofs.Pieces.{Puts}
 use Rattle.parts.specs.Parts.{gap, slot_text}
-use Rattle.accounts.proofs.Told.{is-slot, slot-behind, slots-fit}
 use Rattle.accounts.proofs.slots.put_row.Given as goal
 
 abbrev pub invariant-loop-j : goal.invariant-loop-j

@@ -1,14 +1,10 @@
-use mathlib.Core.Path.{◌≡◌, refl, sym, ap, ◌∙◌}
-use Prim.Native.Nat.{ℕ, ◌+◌, ◌-◌}
-use native.Mathlib.Omega.{arith}
-use borrow.Author.Rules.{rules}
+use mathlib.Core.Path.{◌≡◌}
+use Prim.Native.Nat.{◌+◌, ◌-◌}
 use Rattle.answers.specs.Lent.{joined}
 use Rattle.layout.specs.Triangle.{slot_of}
-use Rattle.layout.proofs.RowByRow.{row_first, row_next, row_within}
 use Rattle.explain.specs.Slots.{code_at}
-use Rattle.text.proofs.Pieces.{Puts, puts_none, puts-more, puts-done, put-long}
+use Rattle.text.proofs.Pieces.{Puts}
 use Rattle.accounts.specs.Account.{row_text}
-use Rattle.accounts.proofs.Told.{slots-fit}
 use Rattle.accounts.proofs.slots.put_slots.Given as goal
 
 abbrev pub invariant-loop-i : goal.invariant-loop-i

@@ -2,7 +2,7 @@
 use mathlib.Core.Path.{sym, ◌∙◌}
 use lib.ListN.{length}
 use Rattle.convert.specs.Converted.{npy_of}
-use Rattle.convert.proofs.Made.{streams-made, streams-refused}
+use Rattle.convert.proofs.Made.{streams-made}
 use Rattle.convert.proofs.Makes.{npy-makes}
 use Rattle.convert.proofs.file.npy_of_pack.Goals as goal
 

@@ -2,7 +2,7 @@
 use mathlib.Core.Path.{sym, ◌∙◌}
 use lib.ListN.{length}
 use Rattle.convert.specs.Converted.{clen_of, pack_of}
-use Rattle.convert.proofs.Made.{streams-made, streams-refused}
+use Rattle.convert.proofs.Made.{streams-made}
 use Rattle.convert.proofs.Makes.{pack-makes}
 use Rattle.convert.proofs.pack.pack_of_npy.Goals as goal
 

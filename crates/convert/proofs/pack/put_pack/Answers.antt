@@ -1,13 +1,9 @@
 -- `pack::put_pack` meets its contract: what was read stands at the front of the rooms, and goes on from there.
-use mathlib.Core.Path.{sym}
-use native.Mathlib.Omega.{arith}
-use lib.Seq.{length-take-le}
 use Rattle.npy_header.specs.Header.{size_in}
 use Rattle.npy.specs.Matrix.{deviations_in, correlations_in}
 use Rattle.npy.specs.Rules.{import_answer}
 use Rattle.packs.specs.Printed.{max_rows, max_slots}
-use Rattle.convert.specs.Converted.{clen_of, pack_of}
-use Rattle.convert.proofs.Given.{Given, stays, goes, deviations-are, correlations-are, deviations-held, correlations-held}
+use Rattle.convert.proofs.Given.{Given, goes, deviations-are, correlations-are}
 use Rattle.convert.proofs.Makes.{file-given}
 use Rattle.convert.proofs.pack.put_pack.Goals as goal
 use Rattle.convert.proofs.pack.put_pack.Goals.{After-import_npy-read}

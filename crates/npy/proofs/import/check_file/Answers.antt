@@ -1,12 +1,7 @@
 -- `import::check_file` meets its contract: the rules in their order.
-use mathlib.Core.Path.{sym, ◌∙◌}
 use native.Mathlib.Omega.{arith}
-use Rattle.answers.specs.Table.{next}
-use Rattle.answers.proofs.Next.{check-passed, stops, goes}
-use Rattle.npy_header.specs.Header.{size_in}
-use Rattle.npy_header.specs.Rules.{header_rule}
+use Rattle.answers.proofs.Next.{check-passed}
 use Rattle.npy_header.proofs.Held.{header-held}
-use Rattle.npy.specs.Rules.{size_rules, pair_rules}
 use Rattle.npy.proofs.Held.{size-held}
 use Rattle.npy.proofs.import.check_file.Goals as goal
 

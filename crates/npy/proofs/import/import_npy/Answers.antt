@@ -1,7 +1,6 @@
 -- `import::import_npy` meets its contract: all is decided, and then stored.
-use native.Mathlib.Omega.{arith}
 use Rattle.answers.proofs.Next.{check-passed}
-use Rattle.npy.proofs.Imported.{kept, Ready, ready, stored}
+use Rattle.npy.proofs.Imported.{Ready, ready}
 use Rattle.npy.proofs.import.import_npy.Goals as goal
 use Rattle.npy.proofs.import.import_npy.Goals.{In_default}
 

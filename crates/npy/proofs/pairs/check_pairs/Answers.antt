@@ -1,10 +1,8 @@
 -- `pairs::check_pairs` meets its contract. The invariant: the pairs of the rows before this one agree.
-use mathlib.Core.Path.{◌≡◌, refl, sym}
-use Prim.Native.Nat.{◌-◌, ◌≤◌}
+use mathlib.Core.Path.{◌≡◌, sym}
 use native.Mathlib.Omega.{arith}
-use Rattle.answers.specs.Table.{passes, each}
 use Rattle.npy.specs.Rules.{row_rules, pair_rules}
-use Rattle.answers.proofs.Each.{each_more, each-stops}
+use Rattle.answers.proofs.Each.{each-stops}
 use Rattle.npy.proofs.pairs.check_pairs.Goals as goal
 
 pub returns-in_default : goal.returns-in_default

@@ -1,10 +1,7 @@
-use mathlib.Core.Path.{◌≡◌, refl, sym}
+use mathlib.Core.Path.{◌≡◌}
 use Prim.Native.Nat.{◌-◌, ◌≤◌}
-use native.Mathlib.Omega.{arith}
-use borrow.Author.Rules.{rules}
 use Rattle.answers.specs.Table.{passes, each}
-use Rattle.npy.specs.Rules.{row_rules, pair_rules}
-use Rattle.answers.proofs.Each.{each_more, each-stops}
+use Rattle.npy.specs.Rules.{row_rules}
 use Rattle.npy.proofs.pairs.check_pairs.Given as goal
 
 abbrev pub invariant-loop-i : goal.invariant-loop-i

@@ -1,16 +1,15 @@
 -- `pairs::check_row` meets its contract. The invariant: both places are those of the next pair, and the pairs before it
 -- agree.
-use mathlib.Core.Path.{◌≡◌, refl, sym}
-use Prim.Native.Nat.{ℕ, ◌+◌, ◌-◌, ◌≤◌}
+use mathlib.Core.Path.{◌≡◌}
+use Prim.Native.Nat.{ℕ, ◌+◌, ◌-◌}
 use native.Mathlib.Omega.{arith}
-use borrow.Author.Tests.{eq-eqb, ne_eqb}
+use borrow.Author.Tests.{ne_eqb}
 use Rattle.answers.specs.declared.Refusal.TheVariants.{Asymmetric}
-use Rattle.answers.specs.Table.{Answer, passes, each}
-use Rattle.npy.specs.Matrix.{place_of, entry_in}
+use Rattle.answers.specs.Table.{Answer}
+use Rattle.npy.specs.Matrix.{entry_in}
 use Rattle.npy.specs.Rules.{pair_rule}
-use Rattle.answers.proofs.Each.{each_more, each-stops}
-use Rattle.npy.proofs.Places.{place-along, place_down, place-fits}
-use Rattle.npy_export.proofs.Body.{few-entries}
+use Rattle.answers.proofs.Each.{each-stops}
+use Rattle.npy.proofs.Places.{place-fits}
 use Rattle.npy.proofs.pairs.check_row.Goals as goal
 use Rattle.npy.proofs.pairs.check_row.Goals.{After-entry_at-in-loop-k}
 

@@ -1,15 +1,8 @@
-use mathlib.Core.Path.{◌≡◌, refl, sym}
-use Prim.Native.Nat.{ℕ, ◌+◌, ◌-◌, ◌≤◌}
-use native.Mathlib.Omega.{arith}
-use borrow.Author.Rules.{rules}
-use borrow.Author.Tests.{eq-eqb, ne_eqb}
-use Rattle.answers.specs.declared.Refusal.TheVariants.{Asymmetric}
-use Rattle.answers.specs.Table.{Answer, passes, each}
-use Rattle.npy.specs.Matrix.{place_of, entry_in}
+use mathlib.Core.Path.{◌≡◌}
+use Prim.Native.Nat.{◌+◌, ◌-◌, ◌≤◌}
+use Rattle.answers.specs.Table.{passes, each}
+use Rattle.npy.specs.Matrix.{place_of}
 use Rattle.npy.specs.Rules.{pair_rule}
-use Rattle.answers.proofs.Each.{each_more, each-stops}
-use Rattle.npy.proofs.Places.{place-along, place_down, place-fits}
-use Rattle.npy_export.proofs.Body.{few-entries}
 use Rattle.npy.proofs.pairs.check_row.Given as goal
 
 abbrev pub invariant-loop-k : goal.invariant-loop-k

@@ -1,10 +1,8 @@
 -- `store::store_correlations` meets its contract. The invariant: the rows before this one are stored, and the first slot is
 -- the one behind them.
 use mathlib.Core.Path.{◌≡◌, refl, sym, ap, ◌∙◌}
-use Prim.Native.Nat.{ℕ, ◌+◌, ◌-◌, ◌≤◌}
+use Prim.Native.Nat.{ℕ, ◌+◌, ◌-◌}
 use native.Mathlib.Omega.{arith}
-use lib.ListN.{length}
-use lib.Seq.{sets, length-sets}
 use Rattle.answers.specs.Lent.{joined}
 use Rattle.answers.proofs.Stored.{sets_over}
 use Rattle.layout.specs.Triangle.{slot_of}

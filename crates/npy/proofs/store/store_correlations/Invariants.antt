@@ -1,15 +1,9 @@
-use mathlib.Core.Path.{◌≡◌, refl, sym, ap, ◌∙◌}
-use Prim.Native.Nat.{ℕ, ◌+◌, ◌-◌, ◌≤◌}
-use native.Mathlib.Omega.{arith}
-use borrow.Author.Rules.{rules}
-use lib.ListN.{length}
-use lib.Seq.{sets, length-sets}
+use mathlib.Core.Path.{◌≡◌}
+use Prim.Native.Nat.{◌+◌, ◌-◌, ◌≤◌}
+use lib.Seq.{sets}
 use Rattle.answers.specs.Lent.{joined}
-use Rattle.answers.proofs.Stored.{sets_over}
 use Rattle.layout.specs.Triangle.{slot_of}
-use Rattle.layout.proofs.RowByRow.{row_first, row_next, row_within, few-slots}
-use Rattle.npy.specs.Matrix.{row_in, correlations_in}
-use Rattle.npy.proofs.Matrix.{length-correlations, stored_row}
+use Rattle.npy.specs.Matrix.{row_in}
 use Rattle.npy.proofs.store.store_correlations.Given as goal
 
 abbrev pub invariant-loop-i : goal.invariant-loop-i

@@ -1,12 +1,9 @@
 -- `store::store_deviations` meets its contract. The invariant: the place is that of the next entry of the diagonal.
-use mathlib.Core.Path.{◌≡◌}
-use Prim.Native.Nat.{ℕ, ◌-◌}
+use Prim.Native.Nat.{ℕ}
 use native.Mathlib.Omega.{arith}
-use Rattle.answers.proofs.Lent.{Front}
-use Rattle.answers.proofs.Tab.{tab-none, tab-room, tab-more, tab-done}
-use Rattle.npy.specs.Matrix.{place_of, entry_in, deviations_in}
-use Rattle.npy.proofs.Places.{place-along, place_down, place-fits}
-use Rattle.npy_export.proofs.Body.{few-entries}
+use Rattle.answers.proofs.Tab.{tab-none, tab-more, tab-done}
+use Rattle.npy.specs.Matrix.{entry_in}
+use Rattle.npy.proofs.Places.{place-along, place_down}
 use Rattle.npy.proofs.store.store_deviations.Goals as goal
 
 pub loop-i-init : goal.loop-i-init

@@ -1,18 +1,17 @@
 -- `store::store_row` meets its contract. The invariant: so many slots of the row are stored, and the place is that of the
 -- next.
-use mathlib.Core.Path.{◌≡◌, refl, ap, ◌∙◌}
-use Prim.Native.Nat.{ℕ, ◌+◌, ◌-◌, ◌≤◌, ◌<◌}
+use mathlib.Core.Path.{◌≡◌, ap}
+use Prim.Native.Nat.{ℕ, ◌+◌, ◌≤◌, ◌<◌}
 use native.Mathlib.Omega.{arith}
 use lib.ListN.{length}
-use lib.Seq.{sets, length-sets}
+use lib.Seq.{length-sets}
 use Rattle.layout.proofs.RowByRow.{row-by-row, row-along, few-slots}
 use Rattle.answers.specs.Lent.{tab}
 use Rattle.answers.proofs.Stored.{sets-tab}
 use Rattle.layout.specs.Size.{max_slots}
 use Rattle.layout.specs.Triangle.{slots_of}
-use Rattle.npy.specs.Matrix.{place_of, entry_in}
-use Rattle.npy.proofs.Places.{place-along, place-fits}
-use Rattle.npy_export.proofs.Body.{few-entries}
+use Rattle.npy.specs.Matrix.{entry_in}
+use Rattle.npy.proofs.Places.{place-along}
 use Rattle.npy.proofs.store.store_row.Goals as goal
 use Rattle.npy.proofs.store.store_row.Goals.{In-loop-k}
 

@@ -1,17 +1,8 @@
-use mathlib.Core.Path.{◌≡◌, refl, ap, ◌∙◌}
-use Prim.Native.Nat.{ℕ, ◌+◌, ◌-◌, ◌≤◌, ◌<◌}
-use native.Mathlib.Omega.{arith}
-use borrow.Author.Rules.{rules}
-use lib.ListN.{length}
-use lib.Seq.{sets, length-sets}
-use Rattle.layout.proofs.RowByRow.{row-by-row, row-along, few-slots}
+use mathlib.Core.Path.{◌≡◌}
+use Prim.Native.Nat.{◌+◌, ◌-◌, ◌≤◌}
+use lib.Seq.{sets}
 use Rattle.answers.specs.Lent.{tab}
-use Rattle.answers.proofs.Stored.{sets-tab}
-use Rattle.layout.specs.Size.{max_slots}
-use Rattle.layout.specs.Triangle.{slots_of}
 use Rattle.npy.specs.Matrix.{place_of, entry_in}
-use Rattle.npy.proofs.Places.{place-along, place-fits}
-use Rattle.npy_export.proofs.Body.{few-entries}
 use Rattle.npy.proofs.store.store_row.Given as goal
 
 abbrev pub invariant-loop-k : goal.invariant-loop-k

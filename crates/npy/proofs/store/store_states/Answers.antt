@@ -1,10 +1,6 @@
 -- `store::store_states` meets its contract.
-use Prim.Native.Nat.{◌-◌}
-use native.Mathlib.Omega.{arith}
 use mathlib.Core.Path.{refl}
-use Rattle.answers.specs.Lent.{tab}
-use Rattle.answers.proofs.Lent.{Front}
-use Rattle.answers.proofs.Tab.{tab-none, tab-room, tab-more, tab-done}
+use Rattle.answers.proofs.Tab.{tab-none, tab-more, tab-done}
 use Rattle.npy.proofs.store.store_states.Goals as goal
 
 pub loop-k-init : goal.loop-k-init

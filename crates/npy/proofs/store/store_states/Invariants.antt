@@ -1,9 +1,6 @@
 use Prim.Native.Nat.{◌-◌}
-use native.Mathlib.Omega.{arith}
-use mathlib.Core.Path.{refl}
 use Rattle.answers.specs.Lent.{tab}
 use Rattle.answers.proofs.Lent.{Front}
-use Rattle.answers.proofs.Tab.{tab-none, tab-room, tab-more, tab-done}
 use Rattle.npy.proofs.store.store_states.Given as goal
 
 abbrev pub invariant-loop-k : goal.invariant-loop-k

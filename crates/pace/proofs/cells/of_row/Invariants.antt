@@ -1,4 +1,4 @@
-use Rattle.std.proofs.Common.{◌-◌, length, rules}
+use Rattle.std.proofs.Common.{◌-◌, length}
 use Rattle.pace.proofs.cells.of_row.Given as goal
 
 abbrev pub invariant-loop-j : goal.invariant-loop-j

@@ -1,4 +1,4 @@
-use Rattle.std.proofs.Common.{◌≡◌, ◌-◌, length, arith, length-set, rules}
+use Rattle.std.proofs.Common.{◌≡◌, ◌-◌, length}
 use Rattle.pace.proofs.sample.fill_correlations.Given as goal
 
 abbrev pub invariant-loop-k : goal.invariant-loop-k

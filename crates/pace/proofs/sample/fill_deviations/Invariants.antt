@@ -1,4 +1,4 @@
-use Rattle.std.proofs.Common.{◌≡◌, ◌-◌, length, arith, length-set, rules}
+use Rattle.std.proofs.Common.{◌≡◌, ◌-◌, length}
 use Rattle.pace.proofs.sample.fill_deviations.Given as goal
 
 abbrev pub invariant-loop-i : goal.invariant-loop-i

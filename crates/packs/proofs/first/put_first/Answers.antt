@@ -1,5 +1,5 @@
 -- `first::put_first` meets its contract.
-use mathlib.Core.Path.{refl, sym, ◌∙◌}
+use mathlib.Core.Path.{sym, ◌∙◌}
 use Rattle.text.proofs.Pieces.{put_then}
 use Rattle.packs.proofs.Counted.{read_first}
 use Rattle.packs.proofs.first.put_first.Goals as goal

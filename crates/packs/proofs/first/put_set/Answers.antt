@@ -1,5 +1,4 @@
 -- `first::put_set` meets its contract.
-use Rattle.answers.proofs.OneToOne.{refused-not-done}
 use Rattle.text.proofs.Pieces.{put_then}
 use Rattle.packs.proofs.first.put_set.Goals as goal
 

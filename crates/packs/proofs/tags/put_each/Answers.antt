@@ -1,11 +1,8 @@
 -- `tags::put_each` meets its contract: each turn puts the next tag.
-use mathlib.Core.Path.{refl}
-use Prim.Native.Nat.{◌-◌}
 use native.Mathlib.Numerals.{add-one}
-use native.Mathlib.Omega.{arith}
-use lib.ListN.{length, drop, drop_of_length-le}
+use lib.ListN.{drop_of_length-le}
 use lib.Seq.{drop-cons}
-use Rattle.text.proofs.Pieces.{Rest, rest_all, rest_more, rest-done}
+use Rattle.text.proofs.Pieces.{rest_all, rest_more, rest-done}
 use Rattle.lines.specs.Lines.{numbers}
 use Rattle.packs.proofs.tags.put_each.Goals as goal
 

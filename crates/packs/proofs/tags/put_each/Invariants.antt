@@ -1,11 +1,6 @@
-use mathlib.Core.Path.{refl}
 use Prim.Native.Nat.{◌-◌}
-use native.Mathlib.Numerals.{add-one}
-use native.Mathlib.Omega.{arith}
-use borrow.Author.Rules.{rules}
-use lib.ListN.{length, drop, drop_of_length-le}
-use lib.Seq.{drop-cons}
-use Rattle.text.proofs.Pieces.{Rest, rest_all, rest_more, rest-done}
+use lib.ListN.{length, drop}
+use Rattle.text.proofs.Pieces.{Rest}
 use Rattle.lines.specs.Lines.{numbers}
 use Rattle.packs.proofs.tags.put_each.Given as goal
 

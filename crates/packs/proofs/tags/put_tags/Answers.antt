@@ -1,6 +1,6 @@
 -- `tags::put_tags` meets its contract.
 use Rattle.text.proofs.Pieces.{put_then}
-use Rattle.packs.proofs.Refined.{listed-none, listed-some}
+use Rattle.packs.proofs.Refined.{listed-some}
 use Rattle.packs.proofs.tags.put_tags.Goals as goal
 
 pub returns : goal.returns

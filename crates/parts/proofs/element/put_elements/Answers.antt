@@ -1,5 +1,4 @@
 -- `element::put_elements` meets its contract: one element behind the other.
-use mathlib.Core.Path.{refl}
 use Rattle.text.proofs.Pieces.{put_then}
 use Rattle.parts.proofs.element.put_elements.Goals as goal
 

@@ -3,9 +3,7 @@ use mathlib.Core.Path.{◌≡◌, refl, ap, ◌∙◌}
 use Prim.Native.Nat.{ℕ, ◌+◌, ◌-◌, ◌≤◌}
 use native.Mathlib.Omega.{arith}
 use lib.ListN.{get_or}
-use Rattle.answers.specs.Lent.{joined}
-use Rattle.text.specs.Text.{figures}
-use Rattle.text.proofs.Pieces.{Puts, puts_none, puts-more, puts-done, put-long}
+use Rattle.text.proofs.Pieces.{puts-more}
 use Rattle.parts.proofs.slot.put_bytes.Goals as goal
 
 one_more : (i n : ℕ) → n ≤ i → i + 1 - n ≡ i - n + 1

@@ -1,11 +1,8 @@
-use mathlib.Core.Path.{◌≡◌, refl, ap, ◌∙◌}
-use Prim.Native.Nat.{ℕ, ◌+◌, ◌-◌, ◌≤◌}
-use native.Mathlib.Omega.{arith}
-use borrow.Author.Rules.{rules}
+use Prim.Native.Nat.{◌+◌, ◌-◌, ◌≤◌}
 use lib.ListN.{get_or}
 use Rattle.answers.specs.Lent.{joined}
 use Rattle.text.specs.Text.{figures}
-use Rattle.text.proofs.Pieces.{Puts, puts_none, puts-more, puts-done, put-long}
+use Rattle.text.proofs.Pieces.{Puts}
 use Rattle.parts.proofs.slot.put_bytes.Given as goal
 
 abbrev pub invariant-loop-i : goal.invariant-loop-i

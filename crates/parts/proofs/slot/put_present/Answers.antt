@@ -1,7 +1,5 @@
 -- `slot::put_present` meets its contract: one piece behind the other.
-use mathlib.Core.List.{[], ◌∷◌, append-nil}
 use Rattle.text.proofs.Pieces.{put_then}
-use Rattle.lines.specs.Lines.{numbers}
 use Rattle.parts.proofs.slot.put_present.Goals as goal
 
 pub returns-then-lines : goal.returns-then-lines

@@ -1,5 +1,4 @@
 -- `slot::put_slot` meets its contract: one piece behind the other.
-use mathlib.Core.Path.{refl}
 use Rattle.text.proofs.Pieces.{put_then}
 use Rattle.parts.proofs.slot.put_slot.Goals as goal
 

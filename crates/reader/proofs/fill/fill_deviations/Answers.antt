@@ -1,13 +1,10 @@
 -- `fill::fill_deviations` meets its contract: each turn reads the next deviation, which is there, and stores it.
-use mathlib.Core.Path.{◌≡◌}
-use Prim.Native.Nat.{ℕ, ◌+◌, ◌-◌, ◌*◌}
+use Prim.Native.Nat.{ℕ}
 use native.Mathlib.Nat.{zero-mul}
 use native.Mathlib.Omega.{arith}
-use Rattle.answers.specs.Lent.{tab}
-use Rattle.answers.proofs.Lent.{Front}
 use Rattle.deviations.specs.Form.{form_listed}
 use Rattle.reader.specs.Rows.{form_in}
-use Rattle.answers.proofs.Tab.{tab-none, tab-room, tab-more, tab-done}
+use Rattle.answers.proofs.Tab.{tab-none, tab-more, tab-done}
 use Rattle.reader.proofs.Filled.{turn-value, turn-never, DeviationTurn, deviation-turn}
 use Rattle.reader.proofs.fill.fill_deviations.Goals as goal
 use Rattle.reader.proofs.fill.fill_deviations.Goals.{In-loop-i, Start}

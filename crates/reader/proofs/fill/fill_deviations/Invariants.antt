@@ -1,14 +1,9 @@
 use mathlib.Core.Path.{◌≡◌}
-use Prim.Native.Nat.{ℕ, ◌+◌, ◌-◌, ◌*◌}
-use native.Mathlib.Nat.{zero-mul}
-use native.Mathlib.Omega.{arith}
-use borrow.Author.Rules.{rules}
+use Prim.Native.Nat.{◌+◌, ◌-◌, ◌*◌}
 use Rattle.answers.specs.Lent.{tab}
 use Rattle.answers.proofs.Lent.{Front}
 use Rattle.deviations.specs.Form.{form_listed}
 use Rattle.reader.specs.Rows.{form_in}
-use Rattle.answers.proofs.Tab.{tab-none, tab-room, tab-more, tab-done}
-use Rattle.reader.proofs.Filled.{turn-value, turn-never, DeviationTurn, deviation-turn}
 use Rattle.reader.proofs.fill.fill_deviations.Given as goal
 
 abbrev pub invariant-loop-i : goal.invariant-loop-i

@@ -1,21 +1,13 @@
 -- `plain::fill_plain` meets its contract: each turn stores the next slot, whose code is there if it is present.
 use mathlib.Core.Path.{◌≡◌, sym, ap, ◌∙◌}
-use mathlib.Core.Bool.{true}
-use mathlib.Core.Logic.{⊎_elim}
-use Prim.Native.Nat.{ℕ, ◌+◌, ◌-◌, ◌*◌, ◌^◌, ◌<◌}
-use native.Mathlib.Nat.{le_of_lt, le_trans}
-use native.Mathlib.Omega.{arith}
-use lib.ListN.{length}
-use Rattle.answers.specs.Lent.{tab}
-use Rattle.answers.proofs.Lent.{Front}
+use Prim.Native.Nat.{ℕ, ◌+◌}
 use Rattle.answers.specs.Outcome.{found}
 use Rattle.answers.proofs.Outcome.{found-one, found-not-refused}
 use Rattle.elements.specs.declared.slot.Slot.{Slot}
-use Rattle.elements.specs.Elements.{present_in, slot_in}
+use Rattle.elements.specs.Elements.{slot_in}
 use Rattle.elements.specs.Slots.{slot_listed}
-use Rattle.answers.proofs.Tab.{tab-none, tab-room, tab-more, tab-done}
-use Rattle.codes.proofs.Counts.{fewer, up_fits, within-fits, entry-fits}
-use Rattle.codes.proofs.Filled.{code_at, first_code, behind-present, behind-absent, code-held, slot_held}
+use Rattle.answers.proofs.Tab.{tab-none, tab-more, tab-done}
+use Rattle.codes.proofs.Filled.{first_code, behind-present, behind-absent, slot_held}
 use Rattle.reader.proofs.plain.fill_plain.Goals as goal
 use Rattle.reader.proofs.plain.fill_plain.Goals.{then-present, else-present, After-slot_at-read, Start}
 
@@ -47,12 +39,11 @@ pub loop-k-preserved : goal.loop-k-preserved
 loop-k-preserved c =
     let d = (goal.at.loop-k-preserved c).After-slot_at-read in let s = (goal.at.loop-k-preserved c).Start in let a = s.args in
     let l = d.loop-k in
-    let x = found-one (sym (ap slot_listed c.in-Done.is) ∙ read d) in
-    (
+    let x = found-one (sym (ap slot_listed c.in-Done.is) ∙ read d) in (
       tab-more a.slots (correlation s) l.invariant.0 d.loop-k-test.true (ap (λ (v : Slot). v.bits) x),
       tab-more a.slots (state s) l.invariant.1 d.loop-k-test.true (ap (λ (v : Slot). v.state) x),
       elim c.if-present.branch [
-          then-present w ↦ w.next-is ∙ ap (λ (n : ℕ). n + a.control.clen) l.invariant.2 ∙ behind-present a.bytes.now a.vector a.codes a.control l.k (sym d.is_present-present.ensures ∙ w.if-present.true)
+        | then-present w ↦ w.next-is ∙ ap (λ (n : ℕ). n + a.control.clen) l.invariant.2 ∙ behind-present a.bytes.now a.vector a.codes a.control l.k (sym d.is_present-present.ensures ∙ w.if-present.true)
         | else-present w ↦ w.next-is ∙ l.invariant.2 ∙ behind-absent a.bytes.now a.vector a.codes a.control l.k (sym d.is_present-present.ensures ∙ w.if-present.false)
       ],
     )

@@ -1,21 +1,9 @@
-use mathlib.Core.Path.{◌≡◌, sym, ap, ◌∙◌}
-use mathlib.Core.Bool.{true}
-use mathlib.Core.Logic.{⊎_elim}
-use Prim.Native.Nat.{ℕ, ◌+◌, ◌-◌, ◌*◌, ◌^◌, ◌<◌}
-use native.Mathlib.Nat.{le_of_lt, le_trans}
-use native.Mathlib.Omega.{arith}
-use borrow.Author.Rules.{rules}
-use lib.ListN.{length}
+use mathlib.Core.Path.{◌≡◌}
+use Prim.Native.Nat.{◌-◌}
 use Rattle.answers.specs.Lent.{tab}
 use Rattle.answers.proofs.Lent.{Front}
-use Rattle.answers.specs.Outcome.{found}
-use Rattle.answers.proofs.Outcome.{found-one, found-not-refused}
-use Rattle.elements.specs.declared.slot.Slot.{Slot}
-use Rattle.elements.specs.Elements.{present_in, slot_in}
-use Rattle.elements.specs.Slots.{slot_listed}
-use Rattle.answers.proofs.Tab.{tab-none, tab-room, tab-more, tab-done}
-use Rattle.codes.proofs.Counts.{fewer, up_fits, within-fits, entry-fits}
-use Rattle.codes.proofs.Filled.{code_at, first_code, behind-present, behind-absent, code-held, slot_held}
+use Rattle.elements.specs.Elements.{slot_in}
+use Rattle.codes.proofs.Filled.{code_at}
 use Rattle.reader.proofs.plain.fill_plain.Given as goal
 
 abbrev pub invariant-loop-k : goal.invariant-loop-k

@@ -1,12 +1,10 @@
 -- `put::put_reply` meets its contract. The invariant: what is left of the form is what is left to put.
-use Prim.Native.Nat.{◌-◌}
 use native.Mathlib.Numerals.{add-one}
 use native.Mathlib.Omega.{arith}
 use mathlib.Core.Path.{sym, ◌∙◌, ap}
-use lib.ListN.{drop, drop_of_length-le}
-use Rattle.text.specs.Forms.{spread}
+use lib.ListN.{drop_of_length-le}
 use Rattle.text.proofs.Forms.{spread_end, spread-more}
-use Rattle.text.proofs.Pieces.{Rest, rest_all, rest_more, rest-done}
+use Rattle.text.proofs.Pieces.{rest_all, rest_more, rest-done}
 use Rattle.replies.specs.Forms.{form_of}
 use Rattle.replies.specs.ReplyText.{text_of, is_end, reply_text}
 use Rattle.replies.proofs.Table.{form-short}

@@ -1,16 +1,9 @@
 use Prim.Native.Nat.{◌-◌}
-use native.Mathlib.Numerals.{add-one}
-use native.Mathlib.Omega.{arith}
-use mathlib.Core.Path.{sym, ◌∙◌, ap}
-use borrow.Author.Rules.{rules}
-use lib.ListN.{drop, drop_of_length-le}
+use lib.ListN.{drop}
 use Rattle.text.specs.Forms.{spread}
-use Rattle.text.proofs.Forms.{spread_end, spread-more}
-use Rattle.text.proofs.Pieces.{Rest, rest_all, rest_more, rest-done}
+use Rattle.text.proofs.Pieces.{Rest}
 use Rattle.replies.specs.Forms.{form_of}
 use Rattle.replies.specs.ReplyText.{text_of, is_end, reply_text}
-use Rattle.replies.proofs.Table.{form-short}
-use Rattle.replies.proofs.Letters.{dot-ends}
 use Rattle.replies.proofs.put.put_reply.Given as goal
 
 abbrev pub invariant-loop-i : goal.invariant-loop-i

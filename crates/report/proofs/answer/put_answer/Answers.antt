@@ -1,6 +1,6 @@
 -- `answer::put_answer` meets its contract: what was read is put, or why it was not.
 use native.Mathlib.Omega.{arith}
-use Rattle.report.proofs.Done.{Lent, left, refused-lines, held, pack-lines}
+use Rattle.report.proofs.Done.{Lent, left, held, pack-lines}
 use Rattle.report.proofs.answer.put_answer.Goals as goal
 use Rattle.report.proofs.answer.put_answer.Goals.{After-decode_sdcc_flp-read}
 

@@ -1,5 +1,4 @@
 -- `pack::put_pack` meets its contract: one piece behind the other.
-use mathlib.Core.Path.{sym}
 use native.Mathlib.Omega.{arith}
 use lib.Seq.{length-take-le}
 use Rattle.text.proofs.Pieces.{put_then}

@@ -1,12 +1,10 @@
 -- `pack::put_row` meets its contract: each turn puts the next slot's line behind those before it.
 use mathlib.Core.Path.{refl}
-use Prim.Native.Nat.{◌+◌, ◌-◌, ◌<◌}
+use Prim.Native.Nat.{◌<◌}
 use native.Mathlib.Omega.{arith}
-use Rattle.answers.specs.Lent.{joined}
 use Rattle.layout.specs.Triangle.{slots_of}
-use Rattle.text.proofs.Pieces.{Puts, puts_none, puts-more, puts-done, put-long}
-use Rattle.report.specs.Lines.{slot_line}
-use Rattle.layout.proofs.Along.{Along, along-none, none_passed, along-more, one_more, the-next, passed-below, slot_at, slot-below}
+use Rattle.text.proofs.Pieces.{puts-more}
+use Rattle.layout.proofs.Along.{along-more, one_more, the-next, passed-below, slot_at, slot-below}
 use Rattle.report.proofs.pack.put_row.Goals as goal
 use Rattle.report.proofs.pack.put_row.Goals.{In-loop-j}
 

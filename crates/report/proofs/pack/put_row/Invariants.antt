@@ -1,12 +1,8 @@
-use mathlib.Core.Path.{refl}
-use Prim.Native.Nat.{◌+◌, ◌-◌, ◌<◌}
-use native.Mathlib.Omega.{arith}
-use borrow.Author.Rules.{rules}
+use Prim.Native.Nat.{◌+◌, ◌-◌}
 use Rattle.answers.specs.Lent.{joined}
-use Rattle.layout.specs.Triangle.{slots_of}
-use Rattle.text.proofs.Pieces.{Puts, puts_none, puts-more, puts-done, put-long}
+use Rattle.text.proofs.Pieces.{Puts}
 use Rattle.report.specs.Lines.{slot_line}
-use Rattle.layout.proofs.Along.{Along, along-none, none_passed, along-more, one_more, the-next, passed-below, slot_at, slot-below}
+use Rattle.layout.proofs.Along.{Along}
 use Rattle.report.proofs.pack.put_row.Given as goal
 
 abbrev pub invariant-loop-j : goal.invariant-loop-j

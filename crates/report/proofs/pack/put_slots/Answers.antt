@@ -2,11 +2,9 @@
 use mathlib.Core.Path.{◌≡◌, refl, sym, ap, ◌∙◌}
 use Prim.Native.Nat.{ℕ, ◌+◌, ◌-◌}
 use native.Mathlib.Omega.{arith}
-use Rattle.answers.specs.Lent.{joined}
 use Rattle.layout.specs.Triangle.{slot_of}
 use Rattle.layout.proofs.RowByRow.{row_first, row_next, row_within}
-use Rattle.text.proofs.Pieces.{Puts, puts_none, puts-more, puts-done, put-long}
-use Rattle.report.specs.Lines.{row_lines}
+use Rattle.text.proofs.Pieces.{puts_none, puts-more}
 use Rattle.report.proofs.pack.put_slots.Goals as goal
 use Rattle.report.proofs.pack.put_slots.Goals.{In-loop-i}
 

@@ -1,11 +1,8 @@
-use mathlib.Core.Path.{◌≡◌, refl, sym, ap, ◌∙◌}
-use Prim.Native.Nat.{ℕ, ◌+◌, ◌-◌}
-use native.Mathlib.Omega.{arith}
-use borrow.Author.Rules.{rules}
+use mathlib.Core.Path.{◌≡◌}
+use Prim.Native.Nat.{◌+◌, ◌-◌}
 use Rattle.answers.specs.Lent.{joined}
 use Rattle.layout.specs.Triangle.{slot_of}
-use Rattle.layout.proofs.RowByRow.{row_first, row_next, row_within}
-use Rattle.text.proofs.Pieces.{Puts, puts_none, puts-more, puts-done, put-long}
+use Rattle.text.proofs.Pieces.{Puts}
 use Rattle.report.specs.Lines.{row_lines}
 use Rattle.report.proofs.pack.put_slots.Given as goal
 

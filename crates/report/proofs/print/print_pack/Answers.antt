@@ -1,6 +1,6 @@
 -- `print::print_pack` meets its contract: there is room for any text, or nothing is stored.
 use native.Mathlib.Omega.{arith}
-use Rattle.lines.proofs.Printed.{print-none, print-whole}
+use Rattle.lines.proofs.Printed.{print-whole}
 use Rattle.report.specs.Printed.{room, printed}
 use Rattle.report.proofs.Done.{printed-fits}
 use Rattle.report.proofs.print.print_pack.Goals as goal

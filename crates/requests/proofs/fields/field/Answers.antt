@@ -19,7 +19,7 @@ number : (c : In_default) → let l = c.args.letter in (is_string l ≡ false) �
 number c =
     let l = c.args.letter in
     elim c.in_default.branch [
-        in_default-via-then-letter-lt83 w ↦ neither-is l (λ e. omega arith) (λ e. omega arith) (λ e. omega arith) (λ e. omega arith)
+      | in_default-via-then-letter-lt83 w ↦ neither-is l (λ e. omega arith) (λ e. omega arith) (λ e. omega arith) (λ e. omega arith)
       | in_default-via-else-letter-lt83+else-letter-lt85 w ↦ neither-is l (λ e. omega arith) (λ e. omega arith) (λ e. omega arith) (λ e. omega arith)
     ]
 
@@ -31,7 +31,7 @@ listed : (c : In-67-2) → let l = c.args.letter in (is_string l ≡ false) × (
 listed c =
     let l = c.args.letter in
     elim c.in-67-1.branch [
-        in-67-1 w ↦ list-is l (inl (omega arith))
+      | in-67-1 w ↦ list-is l (inl (omega arith))
       | in_default+else-letter-lt83+then-letter-lt85 w ↦ list-is l (inr (one_of_two 0x53 l (omega arith) (omega arith)))
     ]
 

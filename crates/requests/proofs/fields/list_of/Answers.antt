@@ -1,10 +1,8 @@
 -- `fields::list_of` meets its contract: the list has its part of the words.
 use mathlib.Core.Path.{◌≡◌}
-use mathlib.Core.List.{List}
-use Prim.Native.Nat.{ℕ, ◌≤◌, min}
+use Prim.Native.Nat.{◌≤◌, min}
 use native.Mathlib.Omega.{arith}
 use lib.ListN.{length}
-use Rattle.requests.specs.declared.fields.Part.{Part}
 use Rattle.requests.specs.Fields.{part_of, list_of, words_of}
 use Rattle.requests.proofs.Parts.{part-ordered, part-listed}
 use Rattle.requests.proofs.fields.list_of.Goals as goal

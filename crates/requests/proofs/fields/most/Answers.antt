@@ -1,7 +1,5 @@
 -- `fields::most` meets its contract, by the letter.
-use mathlib.Core.Path.{◌≡◌}
 use mathlib.Core.Logic.{⊎_elim}
-use Prim.Native.Nat.{◌-◌, ◌^◌}
 use native.Mathlib.Omega.{arith}
 use borrow.Author.Tests.{ne_eqb}
 use Rattle.requests.specs.Fields.{most}
@@ -55,4 +53,3 @@ returns-in_default-2 c =
       ne_eqb l 0x4c (λ e. omega arith),
       ne_eqb l 0x52 (λ e. omega arith),
     )
-

@@ -55,7 +55,7 @@ unfolding number_at
 returns-in_default c =
     let l = c.args.letter in
     let n : (l < 0x41) ⊎ (0x59 < l) = elim c.in_default.branch [
-        in_default-via-then-letter-lt65 w ↦ inl (omega arith)
+      | in_default-via-then-letter-lt65 w ↦ inl (omega arith)
       | in_default-via-else-letter-lt65+else-letter-lt87+else-letter-lt90 w ↦ inr (omega arith)
     ] in
     let m = no_number l n in

@@ -1,10 +1,7 @@
 -- `form::begins_as` meets its contract. The invariant: what is left of the line begins as all of it.
-use mathlib.Core.Path.{◌≡◌, refl, sym, ◌∙◌}
-use Prim.Native.Nat.{◌-◌}
+use mathlib.Core.Path.{sym, ◌∙◌}
 use native.Mathlib.Omega.{arith}
-use lib.ListN.{length, drop}
-use Rattle.requests.specs.Form.{begins_as, begins_from}
-use Rattle.requests.proofs.Begins.{begun-field, begun-other, begun_more, begun_all}
+use Rattle.requests.proofs.Begins.{begun-field}
 use Rattle.requests.proofs.form.begins_as.Goals as goal
 
 pub returns-then-is_field : goal.returns-then-is_field

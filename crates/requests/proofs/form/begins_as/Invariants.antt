@@ -1,10 +1,7 @@
-use mathlib.Core.Path.{◌≡◌, refl, sym, ◌∙◌}
+use mathlib.Core.Path.{◌≡◌}
 use Prim.Native.Nat.{◌-◌}
-use native.Mathlib.Omega.{arith}
-use borrow.Author.Rules.{rules}
 use lib.ListN.{length, drop}
 use Rattle.requests.specs.Form.{begins_as, begins_from}
-use Rattle.requests.proofs.Begins.{begun-field, begun-other, begun_more, begun_all}
 use Rattle.requests.proofs.form.begins_as.Given as goal
 
 abbrev pub invariant-loop-i : goal.invariant-loop-i

@@ -1,10 +1,7 @@
 -- `form::form_of` meets its contract. The invariant: of the forms that are left, the first is the first of all.
-use mathlib.Core.Path.{◌≡◌, refl, sym, ◌∙◌}
-use Prim.Native.Nat.{◌-◌, ◌≤◌}
+use mathlib.Core.Path.{◌≡◌}
 use native.Mathlib.Omega.{arith}
 use Rattle.replies.specs.Places.{bad_request}
-use Rattle.requests.specs.Form.{form_of, first_from}
-use Rattle.requests.proofs.Begins.{first-here, first-behind}
 use Rattle.requests.proofs.form.form_of.Goals as goal
 
 pub returns : goal.returns

@@ -1,10 +1,7 @@
-use mathlib.Core.Path.{◌≡◌, refl, sym, ◌∙◌}
+use mathlib.Core.Path.{◌≡◌}
 use Prim.Native.Nat.{◌-◌, ◌≤◌}
-use native.Mathlib.Omega.{arith}
-use borrow.Author.Rules.{rules}
 use Rattle.replies.specs.Places.{bad_request}
 use Rattle.requests.specs.Form.{form_of, first_from}
-use Rattle.requests.proofs.Begins.{first-here, first-behind}
 use Rattle.requests.proofs.form.form_of.Given as goal
 
 abbrev pub invariant-loop-form : goal.invariant-loop-form

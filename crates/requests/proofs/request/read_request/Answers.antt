@@ -1,8 +1,5 @@
 -- `request::read_request` meets its contract. The invariant: what is left to read makes the same request.
-use mathlib.Core.Path.{◌∙◌}
-use Prim.Native.Nat.{◌-◌}
-use native.Mathlib.Omega.{arith}
-use Rattle.requests.proofs.Asked.{Reading, reading-none, reading-more, reading-bad, reading-all}
+use Rattle.requests.proofs.Asked.{reading-none, reading-more}
 use Rattle.requests.proofs.request.read_request.Goals as goal
 
 pub loop-i-init : goal.loop-i-init

@@ -1,8 +1,5 @@
-use mathlib.Core.Path.{◌∙◌}
 use Prim.Native.Nat.{◌-◌}
-use native.Mathlib.Omega.{arith}
-use borrow.Author.Rules.{rules}
-use Rattle.requests.proofs.Asked.{Reading, reading-none, reading-more, reading-bad, reading-all}
+use Rattle.requests.proofs.Asked.{Reading}
 use Rattle.requests.proofs.request.read_request.Given as goal
 
 abbrev pub invariant-loop-i : goal.invariant-loop-i

@@ -1,12 +1,7 @@
 -- `states::states_of` meets its contract: each turn stores the next state.
 use mathlib.Core.Path.{refl}
-use Prim.Native.Nat.{◌-◌, ◌<◌}
 use native.Mathlib.Omega.{arith}
-use lib.ListN.{length}
-use Rattle.answers.specs.Lent.{tab}
-use Rattle.answers.proofs.Lent.{Front}
-use Rattle.answers.proofs.Tab.{tab-none, tab-room, tab-more, tab-done}
-use Rattle.requests.specs.States.{state_at}
+use Rattle.answers.proofs.Tab.{tab-none, tab-more, tab-done}
 use Rattle.requests.proofs.states.states_of.Goals as goal
 
 pub loop-i-init : goal.loop-i-init

@@ -1,10 +1,6 @@
 -- `bytes::put_bytes` meets its contract: each turn puts the next byte behind those before it.
 use mathlib.Core.Path.{refl}
-use Prim.Native.Nat.{◌-◌}
-use lib.ListN.{length, get_or}
-use Rattle.answers.specs.Lent.{joined}
-use Rattle.text.proofs.Pieces.{Puts, puts_none, puts-more, puts-done, put-long}
-use Rattle.shown.specs.Bytes.{byte_text}
+use Rattle.text.proofs.Pieces.{puts-more}
 use Rattle.shown.proofs.bytes.put_bytes.Goals as goal
 
 pub loop-i-preserved : goal.loop-i-preserved

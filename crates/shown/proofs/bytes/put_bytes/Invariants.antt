@@ -1,9 +1,7 @@
-use mathlib.Core.Path.{refl}
 use Prim.Native.Nat.{◌-◌}
-use borrow.Author.Rules.{rules}
 use lib.ListN.{length, get_or}
 use Rattle.answers.specs.Lent.{joined}
-use Rattle.text.proofs.Pieces.{Puts, puts_none, puts-more, puts-done, put-long}
+use Rattle.text.proofs.Pieces.{Puts}
 use Rattle.shown.specs.Bytes.{byte_text}
 use Rattle.shown.proofs.bytes.put_bytes.Given as goal
 

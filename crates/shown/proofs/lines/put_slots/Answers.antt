@@ -1,13 +1,9 @@
 -- `lines::put_slots` meets its contract: each turn puts the next line, and has the next pair.
-use mathlib.Core.Path.{◌≡◌, refl, ap, ◌∙◌}
-use Prim.Native.Nat.{◌-◌}
+use mathlib.Core.Path.{refl, ap, ◌∙◌}
 use native.Mathlib.Numerals.{add-one}
 use native.Mathlib.Omega.{arith}
-use lib.ListN.{get_or}
-use Rattle.answers.specs.Lent.{joined}
-use Rattle.text.proofs.Pieces.{Puts, puts_none, puts-more, puts-done, put-long}
-use Rattle.replies.specs.ReplyText.{reply_text}
-use Rattle.shown.specs.Lines.{slot_reply, next_pair, pair_at}
+use Rattle.text.proofs.Pieces.{puts-more}
+use Rattle.shown.specs.Lines.{next_pair}
 use Rattle.shown.proofs.Pairs.{pair-within}
 use Rattle.shown.proofs.lines.put_slots.Goals as goal
 

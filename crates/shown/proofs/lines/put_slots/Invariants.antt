@@ -1,14 +1,10 @@
-use mathlib.Core.Path.{◌≡◌, refl, ap, ◌∙◌}
+use mathlib.Core.Path.{◌≡◌}
 use Prim.Native.Nat.{◌-◌}
-use native.Mathlib.Numerals.{add-one}
-use native.Mathlib.Omega.{arith}
-use borrow.Author.Rules.{rules}
 use lib.ListN.{get_or}
 use Rattle.answers.specs.Lent.{joined}
-use Rattle.text.proofs.Pieces.{Puts, puts_none, puts-more, puts-done, put-long}
+use Rattle.text.proofs.Pieces.{Puts}
 use Rattle.replies.specs.ReplyText.{reply_text}
-use Rattle.shown.specs.Lines.{slot_reply, next_pair, pair_at}
-use Rattle.shown.proofs.Pairs.{pair-within}
+use Rattle.shown.specs.Lines.{slot_reply, pair_at}
 use Rattle.shown.proofs.lines.put_slots.Given as goal
 
 abbrev pub invariant-loop-k : goal.invariant-loop-k

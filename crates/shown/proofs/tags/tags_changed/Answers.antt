@@ -1,9 +1,5 @@
 -- `tags::tags_changed` meets its contract. The invariant: what is left to look at answers for all of it.
-use mathlib.Core.Path.{refl}
-use Prim.Native.Nat.{◌-◌}
-use native.Mathlib.Omega.{arith}
-use Rattle.shown.specs.Tags.{tag_mark}
-use Rattle.text.proofs.Marked.{Passed, passed-within, passed-more, passed-found, passed-done}
+use Rattle.text.proofs.Marked.{passed-found}
 use Rattle.shown.proofs.tags.tags_changed.Goals as goal
 
 pub returns-then-tags-i : goal.returns-then-tags-i

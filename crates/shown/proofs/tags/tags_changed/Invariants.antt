@@ -1,9 +1,6 @@
-use mathlib.Core.Path.{refl}
 use Prim.Native.Nat.{◌-◌}
-use native.Mathlib.Omega.{arith}
-use borrow.Author.Rules.{rules}
 use Rattle.shown.specs.Tags.{tag_mark}
-use Rattle.text.proofs.Marked.{Passed, passed-within, passed-more, passed-found, passed-done}
+use Rattle.text.proofs.Marked.{Passed}
 use Rattle.shown.proofs.tags.tags_changed.Given as goal
 
 abbrev pub invariant-loop-i : goal.invariant-loop-i

@@ -1,6 +1,6 @@
 -- `print::print_why` meets its contract: there is room for any text, or nothing is stored.
 use native.Mathlib.Omega.{arith}
-use Rattle.lines.proofs.Printed.{print-none, print-whole}
+use Rattle.lines.proofs.Printed.{print-whole}
 use Rattle.told.specs.Printed.{room, printed}
 use Rattle.told.proofs.Fits.{printed-fits}
 use Rattle.told.proofs.print.print_why.Goals as goal

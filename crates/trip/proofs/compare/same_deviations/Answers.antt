@@ -1,14 +1,12 @@
 -- `compare::same_deviations` meets its contract. The invariant: the deviations passed came back.
 use mathlib.Core.Path.{◌≡◌, sym, ap, ◌∙◌}
-use Prim.Native.Nat.{◌-◌}
 use native.Mathlib.Omega.{arith}
-use borrow.Author.Tests.{eq-eqb, ne_eqb}
+use borrow.Author.Tests.{ne_eqb}
 use lib.Ieee.{binary32, binary64}
-use lib.ListN.{length, get_or}
+use lib.ListN.{get_or}
 use Rattle.numbers.specs.Conversions.{converted}
 use Rattle.trip.specs.Values.{deviation_kept}
-use Rattle.trip.specs.Compared.{deviation_agrees}
-use Rattle.answers.proofs.Every.{Tested, tested-none, tested-more, tested-not, tested-all}
+use Rattle.answers.proofs.Every.{tested-not}
 use Rattle.trip.proofs.compare.same_deviations.Goals as goal
 use Rattle.trip.proofs.compare.same_deviations.Goals.{After-binary32_to_binary64}
 

@@ -1,11 +1,7 @@
 -- `compare::same_slots` meets its contract. The invariant: the slots passed came back.
 use mathlib.Core.Path.{sym, ◌∙◌}
-use Prim.Native.Nat.{◌-◌}
 use native.Mathlib.Omega.{arith}
-use borrow.Author.Tests.{not-true, not-false}
-use lib.ListN.{length, get_or}
-use Rattle.trip.specs.Compared.{slot_agrees}
-use Rattle.answers.proofs.Every.{Tested, tested-none, tested-more, tested-not, tested-all}
+use Rattle.answers.proofs.Every.{tested-not}
 use Rattle.trip.proofs.compare.same_slots.Goals as goal
 
 pub returns-then-not-same_slot : goal.returns-then-not-same_slot

@@ -1,10 +1,7 @@
-use mathlib.Core.Path.{sym, ◌∙◌}
 use Prim.Native.Nat.{◌-◌}
-use native.Mathlib.Omega.{arith}
-use borrow.Author.Tests.{not-true, not-false}
 use lib.ListN.{length, get_or}
 use Rattle.trip.specs.Compared.{slot_agrees}
-use Rattle.answers.proofs.Every.{Tested, tested-none, tested-more, tested-not, tested-all}
+use Rattle.answers.proofs.Every.{Tested}
 use Rattle.trip.proofs.compare.same_slots.Given as goal
 
 abbrev pub invariant-loop-k : goal.invariant-loop-k

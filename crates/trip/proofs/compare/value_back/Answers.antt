@@ -1,16 +1,11 @@
 -- `compare::value_back` meets its contract: a correlation in range has a code, and that reads as a value.
-use mathlib.Core.Path.{◌≡◌, refl, sym, ap, ◌∙◌}
+use mathlib.Core.Path.{◌≡◌, sym, ap, ◌∙◌}
 use mathlib.Core.List.{[], ◌∷◌}
 use Prim.Native.Nat.{ℕ}
-use lib.ListN.{length, take}
-use native.Mathlib.Omega.{arith}
-use denote.Enum.Declared.{tag_of}
-use types.Run.{OneOf, miss}
+use lib.ListN.{take}
 use lib.Ieee.{Float, binary64, of_bits, to_bits}
 use Rattle.answers.specs.Table.{Answer, answer, wholes}
-use Rattle.answers.specs.declared.Refusal.{Refusal}
 use Rattle.answers.specs.Listed.{written}
-use Rattle.answers.proofs.OneToOne.{done-not-refused}
 use Rattle.numbers.specs.Words.{bytes_of}
 use Rattle.numbers.proofs.Bytes.{length-bytes}
 use Rattle.imapb.specs.Mapping.{code_of, value_of}
@@ -18,9 +13,8 @@ use Rattle.imapb.specs.Tables.{reads, imapb_listed, imapb_read}
 use Rattle.imapb.specs.declared.decode.DecodedImapb.{DecodedImapb}
 use Rattle.imapb.specs.declared.decode.DecodedImapb.TheVariants.{Value}
 use Rattle.imapb.specs.declared.decode.ImapbRead.{ImapbRead}
-use Rattle.imapb.specs.declared.decode.ImapbRead.TheVariants.{Done, Refused}
+use Rattle.imapb.specs.declared.decode.ImapbRead.TheVariants.{Done}
 use Rattle.imapb.proofs.NoNan.{value-number}
-use Rattle.imapb.specs.contracts.decode.DecodedImapb.{the_type}
 use Rattle.trip.proofs.Stood.{done-front}
 use Rattle.trip.proofs.Coded.{code-written, code_read}
 use Rattle.trip.proofs.compare.value_back.Goals as goal

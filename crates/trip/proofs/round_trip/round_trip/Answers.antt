@@ -1,13 +1,11 @@
 -- `round_trip::round_trip` meets its contract.
 use mathlib.Core.Path.{sym, ap, ◌∙◌}
-use mathlib.Core.List.{List}
-use Prim.Native.Nat.{ℕ}
 use Rattle.answers.specs.Listed.{written}
 use Rattle.answers.proofs.OneToOne.{refused-not-done}
 use Rattle.reader.specs.Listed.{read_listed}
 use Rattle.trip.specs.Tripped.{Lent}
 use Rattle.trip.proofs.Tripped.{Ran, comparable, write-refused, read-refused, compared}
-use Rattle.trip.proofs.Wrote.{Wrote, pack-long}
+use Rattle.trip.proofs.Wrote.{Wrote}
 use Rattle.trip.proofs.round_trip.round_trip.Goals as goal
 use Rattle.trip.proofs.round_trip.round_trip.Goals.{After-decode_sdcc_flp-read}
 
