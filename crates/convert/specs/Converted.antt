@@ -1,4 +1,4 @@
--- Document 02, K8: what the programs that make a .npy file of a pack, and a pack of a.npy file, write for which input.
+-- Document 02, K8: what the programs that make a .npy file of a pack, and a pack of a .npy file, write for which input.
 use Rattle.std.specs.Prelude.{ℕ, List, length}
 use Rattle.answers.specs.Table.{Answer, pick, next}
 use Rattle.layout.specs.Header.{said_size}
@@ -36,7 +36,7 @@ module _ (bytes : List ℕ) where
   abbrev pub npy_stream : ℕ → Stream
   npy_stream room = unless_too_big bytes (made (npy_answer room) npy_of)
 
--- ---- the pack of a.npy file, with a Clen
+-- ---- the pack of a .npy file, with a Clen
 abbrev pub clen_of : Clen → ℕ
 clen_of Default = default_clen
 clen_of (Named L) = L

@@ -30,11 +30,11 @@ module _ (n R : ℕ) (c : ParseControl) where
   abbrev pub rule_d : Answer
   rule_d = limit_rule n
 
-  -- e) N·Slen>R: 1 with N-as-Slen and R
+  -- e) N·Slen>R: 1 with N·Slen and R
   abbrev pub rule_e : Answer
   rule_e = pick (ltb R (n * c.slen)) (short (n * c.slen) R) passes
 
-  -- f) CS=0 and M·Clen>R: 1 with M-as-Clen and R
+  -- f) CS=0 and M·Clen>R: 1 with M·Clen and R
   abbrev pub rule_f : Answer
   rule_f = pick (not c.cs && ltb R (slots_of n * c.clen)) (short (slots_of n * c.clen) R) passes
 

@@ -1,4 +1,4 @@
--- Document 02, K8: the entries of a.npy file, and the matrix that they are.
+-- Document 02, K8: the entries of a .npy file, and the matrix that they are.
 use Rattle.std.specs.Prelude.{ℕ, ◌+◌, ◌-◌, ◌*◌, List}
 use Rattle.answers.specs.Lent.{tab, joined}
 use Rattle.numbers.specs.Words.{low_word_of}

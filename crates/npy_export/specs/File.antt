@@ -1,4 +1,4 @@
--- Document 02, K8: a matrix as a.npy file, deviations on the diagonal, correlations on both sides.
+-- Document 02, K8: a matrix as a .npy file, deviations on the diagonal, correlations on both sides.
 use Rattle.std.specs.Prelude.{ℕ, min, max, ◌+◌, ◌*◌, List, ◌++◌, eqb, get_or}
 use Rattle.answers.specs.Table.{pick}
 use Rattle.answers.specs.Lent.{joined}

@@ -1,4 +1,4 @@
--- Document 02, K8: the header of a.npy file of version 1.0, and where a file breaks it.
+-- Document 02, K8: the header of a .npy file of version 1.0, and where a file breaks it.
 use Rattle.std.specs.Prelude.{ℕ, zero, suc, ◌+◌, ◌-◌, ◌*◌, List, [], ◌∷◌, ◌++◌, eqb, ltb, length}
 use Rattle.answers.specs.Table.{pick}
 use Rattle.answers.specs.Lent.{tab}

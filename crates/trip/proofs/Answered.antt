@@ -203,7 +203,7 @@ plans-in n cs L = in-next (count_rules n (length cs) L) (range_rules cs) (counts
 room_in : (needed room : ℕ) → InTable (room_rule needed room)
 room_in needed room = search table depth 10
 
--- a.npy file
+-- a .npy file
 pairs-in : (file : List ℕ) (n : ℕ) → InTable (pair_rules file n)
 unfolding pair_rules
 pairs-in file n =

@@ -41,7 +41,7 @@ pub record Answered : Type 0 where
   pub rooms-for : (rows slots d c s : ℕ) → InTable (rooms_rule rows slots d c s)
   -- a set, for every byte string and every tag list
   pub takes : (set : List ℕ) (room : ℕ) → InTable (set_answer set room)
-  -- a.npy file, made of every N and all numbers, and read from every byte string; its header within it
+  -- a .npy file, made of every N and all numbers, and read from every byte string; its header within it
   pub exports : (n ds cs room : ℕ) → InTable (export_answer n ds cs room)
   pub imports : (file : List ℕ) (d c s : ℕ) → InTable (import_answer file d c s)
   pub writes-header : (n room : ℕ) → InTable (header_written n room)
