@@ -75,11 +75,6 @@ fn feed<W: Write>(
 }
 
 // The arrays come from calls: the check would count the elements of one that `main` makes itself.
-// What a request writes goes where its line stood, and of that a file is lent the most.
-fn room_for_line() -> [u8; FILE] {
-    [0; FILE]
-}
-
 fn room_for_block() -> [u8; HELD] {
     [0; HELD]
 }
@@ -88,16 +83,14 @@ fn room_for_words() -> [u64; WORDS] {
     [0; WORDS]
 }
 
-fn room_for_output() -> [u8; OUT] {
-    [0; OUT]
-}
-
 // The turns are counted down, from a number that no run uses up, since nothing says that the input ends.
 fn main(rt: HostRuntime) -> io::Result<()> {
     let mut block = room_for_block();
-    let mut line = room_for_line();
     let mut words = room_for_words();
-    let mut out = room_for_output();
+    // What a request writes goes where its line stood, and of that a file is lent the most. So large an array is made
+    // here, since a call's own would stand beside it on the stack.
+    let mut line = [0; FILE];
+    let mut out = [0; OUT];
     let mut read: usize = 0;
     let mut turns = u64::MAX;
     while 0 < turns {

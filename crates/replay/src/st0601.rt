@@ -15,11 +15,6 @@ use shown::touched::put_touched;
 use std::io;
 use std::io::Write;
 
-// The array comes from a call: the check would count the elements of one that is made where it is used.
-fn room_for_tags() -> [u32; TAGS] {
-    [TAG_MARK; TAGS]
-}
-
 // As much is lent as the request says.
 fn read(room: u64, set: &[u8], tags: &mut [u32]) -> SetAnswer {
     let lent = within_tags(room as usize, tags);
@@ -141,7 +136,8 @@ pub(crate) fn put_set<W: Write>(
     at: usize,
     out: &mut [u8],
 ) -> io::Result<usize> {
-    let mut tags = room_for_tags();
+    // made here, since a call's own would stand beside it on the stack
+    let mut tags = [TAG_MARK; TAGS];
     let answer = read(request.room, set, &mut tags);
     let said = put_reply(of_set(answer), at, out);
     put_behind(stream, answer, request.room, set, &tags, said, out)
