@@ -8,16 +8,16 @@ use native.Mathlib.Nat.{add-mul, mul-le-mul_right}
 use native.Mathlib.Numerals.{add-one}
 use native.Mathlib.Omega.{arith}
 use lib.ListN.{length, length-append}
+use Rattle.std.specs.Prelude.{None, Option, Some}
 use Rattle.answers.specs.Lent.{joined}
 use Rattle.answers.proofs.Joined.{joined-le}
 use Rattle.answers.proofs.Rules.{picked}
 use Rattle.layout.specs.Triangle.{slots_of, slot_of}
 use Rattle.layout.proofs.RowByRow.{row_next, row_within}
-use Rattle.elements.specs.declared.head.Head.{Head}
+use Rattle.layout.specs.declared.header.Head.{Head}
 use Rattle.elements.specs.Elements.{part, present_in, code_slot}
 use Rattle.explain.specs.declared.slot.SlotCode.{SlotCode}
-use Rattle.explain.specs.declared.slot.SlotCode.TheVariants.{Absent, At}
-use Rattle.explain.specs.Slots.{code_at, slot_code}
+use Rattle.explain.specs.Slots.{code_at, code_of, slot_code}
 use Rattle.explain.specs.Spans.{span}
 use Rattle.parts.specs.Parts.{gap, slot_text}
 use Rattle.parts.proofs.Fits.{absent-length, at_length}
@@ -28,8 +28,8 @@ slot-length : (lines : Bool) (bytes : List ℕ) (i j : ℕ) (h : Head) (k : ℕ)
 slot-length lines bytes i j h k =
     let s = span (code_at bytes h k) (code_at bytes h k + h.control.clen) in
     let x = (code_slot h.control (part bytes (code_at bytes h k) h.control.clen)).state in
-    picked (λ (c : SlotCode). length (gap lines ++ slot_text lines bytes i j c) ≤ 111 + 2 * h.control.clen) (present_in bytes h.body h.control k)
-    (At s x) Absent (λ _. omega (arith, at_length lines bytes i j s x)) (λ _. omega (arith, absent-length lines bytes i j))
+    picked (λ (c : Option SlotCode). length (gap lines ++ slot_text lines bytes i j c) ≤ 111 + 2 * h.control.clen) (present_in bytes h.body h.control k)
+    (Some (code_of s x)) None (λ _. omega (arith, at_length lines bytes i j s x)) (λ _. omega (arith, absent-length lines bytes i j))
 
 -- row by row
 module _ (lines : Bool) (bytes : List ℕ) (h : Head) where

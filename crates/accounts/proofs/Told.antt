@@ -5,10 +5,11 @@ use mathlib.Core.List.{List}
 use Prim.Native.Nat.{ℕ, ◌+◌, ◌<◌, ◌^◌}
 use native.Mathlib.Numerals.{add-one}
 use native.Mathlib.Omega.{arith}
+use Rattle.std.specs.Prelude.{Option}
 use Rattle.layout.specs.Ruled.{passed}
 use Rattle.layout.specs.Triangle.{slots_of}
 use Rattle.layout.proofs.RowByRow.{square-fits}
-use Rattle.elements.specs.declared.head.Head.{Head}
+use Rattle.layout.specs.declared.header.Head.{Head}
 use Rattle.elements.specs.Elements.{head_of}
 use Rattle.rules.specs.Named.{pack_ruled}
 use Rattle.explain.specs.declared.slot.SlotCode.{SlotCode}
@@ -29,7 +30,7 @@ module _ (bytes : List ℕ) (e : pack_ruled bytes ≡ passed) where
   told = record { each = j.told; next = j.next }
 
 -- ---- the slot that is told where the place of its code is carried along
-module _ {bytes : List ℕ} {h : Head} (t : Told bytes h) {k at : ℕ} {c : SlotCode} (l : k < slots_of h.n) (e : at ≡ code_at bytes h k) (q : c ≡ slot_from bytes h k at) where
+module _ {bytes : List ℕ} {h : Head} (t : Told bytes h) {k at : ℕ} {c : Option SlotCode} (l : k < slots_of h.n) (e : at ≡ code_at bytes h k) (q : c ≡ slot_from bytes h k at) where
   pub is-slot : c ≡ slot_code bytes h k
   is-slot = q ∙ rw e (t.each k l)
 

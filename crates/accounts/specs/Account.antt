@@ -2,7 +2,7 @@
 use Rattle.std.specs.Prelude.{ℕ, ◌+◌, ◌-◌, Bool, List, ◌++◌, length}
 use Rattle.answers.specs.Lent.{joined}
 use Rattle.layout.specs.Triangle.{slot_of}
-use Rattle.elements.specs.declared.head.Head.{Head}
+use Rattle.layout.specs.declared.header.Head.{Head}
 use Rattle.explain.specs.declared.spans.Elements.{Elements}
 use Rattle.explain.specs.Slots.{slot_code}
 use Rattle.explain.specs.Explained.{Explanation, accepted, refused, explained}

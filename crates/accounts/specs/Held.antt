@@ -1,7 +1,7 @@
 -- What the parts that tell of slots may count on, once a pack is accepted.
 use Rattle.std.specs.Prelude.{ℕ, suc, ◌<◌, ◌≡◌, List}
 use Rattle.layout.specs.Triangle.{slots_of}
-use Rattle.elements.specs.declared.head.Head.{Head}
+use Rattle.layout.specs.declared.header.Head.{Head}
 use Rattle.explain.specs.Slots.{slot_from, code_at, slot_code, behind}
 
 -- each slot is told right where the place of the next code is carried along

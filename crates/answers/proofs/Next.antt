@@ -7,10 +7,9 @@ use Prim.Native.Nat.{ℕ}
 use native.Mathlib.Omega.{arith}
 use lib.Dec.{T, eqb, ltb, ltb→lt}
 use borrow.Author.Tests.{eqb-true, eqb-false}
+use Rattle.std.specs.Prelude.{Ok, Err, Result, ⊤}
 use Rattle.answers.specs.Table.{Entry, Answer, answer, pick, passes, next}
 use Rattle.answers.specs.Listed.{listed, checked}
-use Rattle.answers.specs.declared.Check.{Check}
-use Rattle.answers.specs.declared.Check.TheVariants.{Passes, Refused}
 use Rattle.answers.specs.declared.Refusal.{Refusal}
 use Rattle.answers.proofs.OneToOne.{refused-not-done, done-not-refused}
 use Rattle.answers.proofs.Rules.{picked}
@@ -39,7 +38,7 @@ unheld true a f z = absurd (eqb-false a.number 0 f z)
 unheld false a f z = refl
 
 -- a check that passes is of rules that refuse nothing
-pub check-passed : {k : Check} {a : Answer} → k ≡ Passes → checked k ≡ a → a.number ≡ 0
+pub check-passed : {k : Result ⊤ Refusal} {a : Answer} → k ≡ (Ok tt) → checked k ≡ a → a.number ≡ 0
 check-passed e f = let g = rw e at f in sym (ap (λ (x : Answer). x.number) g)
 
 -- what an answer says where it refuses nothing
@@ -67,12 +66,12 @@ abbrev pub IsRule : Answer → Type 0
 IsRule = Says (λ a. a ≡ passes)
 
 -- a check that refuses ends an order of rules, and one that passes goes on to the next
-module _ {k : Check} (a b : Answer) (e : checked k ≡ a) where
-  pub stops : {r : Refusal} → k ≡ Refused r → checked k ≡ next a b
+module _ {k : Result ⊤ Refusal} (a b : Answer) (e : checked k ≡ a) where
+  pub stops : {r : Refusal} → k ≡ Err r → checked k ≡ next a b
   stops {r} h = let f : listed r ≡ a = rw h at e in rw (h, ← f, refused-not-done r)
 
-  pub goes : k ≡ Passes → next a b ≡ b
+  pub goes : k ≡ (Ok tt) → next a b ≡ b
   goes h = let f : passes ≡ a = rw h at e in rw (← f)
 
-pub never-refused : {k : Check} {r : Refusal} → checked k ≡ passes → k ≡ Refused r → ⊥
+pub never-refused : {k : Result ⊤ Refusal} {r : Refusal} → checked k ≡ passes → k ≡ Err r → ⊥
 never-refused {r = r} e h = done-not-refused passes r refl (sym (rw h at e))

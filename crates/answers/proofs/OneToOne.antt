@@ -7,11 +7,8 @@ use mathlib.Core.List.{List, [], ◌∷◌}
 use Prim.Native.Nat.{ℕ, ◌-◌}
 use native.Mathlib.Omega.{arith}
 use lib.Dec.{ltb, eqb}
+use Rattle.std.specs.Prelude.{Ok, Err, Result, ⊤}
 use Rattle.answers.specs.declared.Refusal.{Refusal}
-use Rattle.answers.specs.declared.Check.{Check}
-use Rattle.answers.specs.declared.Check.TheVariants as check
-use Rattle.answers.specs.declared.Written.{Written}
-use Rattle.answers.specs.declared.Written.TheVariants.{Done, Refused}
 use Rattle.answers.specs.Table.{Entry, whole, bits64, Answer, passes}
 use Rattle.answers.specs.Listed.{listed, written, checked}
 use Rattle.answers.specs.contracts.Refusal.{the_parts as parts, as_values, the_make as make, the_eta as eta}
@@ -70,19 +67,25 @@ done-not-refused a r z e =
     let o : ◌≡◌ {A = ℕ} 0 1 = cc in
     omega arith
 
-pub written_one : (r s : Written) → written r ≡ written s → r ≡ s
-written_one (Done n) (Done m) e = let c : plains (written (Done n)).carries ≡ plains (written (Done m)).carries = ap (λ (a : Answer). plains a.carries) e in cc
-written_one (Done n) (Refused s) e = absurd (done-not-refused (written (Done n)) s refl e)
-written_one (Refused r) (Done m) e = absurd (done-not-refused (written (Done m)) r refl (sym e))
-written_one (Refused r) (Refused s) e = ap Refused (listed-one r s e)
+-- a listing of results is one to one where it is on what was done, and on what refuses, and tells the two apart
+pub result-one : {T E X : Type 0} (f : Result T E → X)
+    → ((x y : T) → f (Ok x) ≡ f (Ok y) → x ≡ y) → ((r s : E) → f (Err r) ≡ f (Err s) → r ≡ s)
+    → ((x : T) (r : E) → f (Ok x) ≡ f (Err r) → ⊥) → (a b : Result T E) → f a ≡ f b → a ≡ b
+result-one f ok err apart (Ok x) (Ok y) e = ap Ok (ok x y e)
+result-one f ok err apart (Ok x) (Err r) e = absurd (apart x r e)
+result-one f ok err apart (Err r) (Ok x) e = absurd (apart x r (sym e))
+result-one f ok err apart (Err r) (Err s) e = ap Err (err r s e)
+
+pub written_one : (r s : Result ℕ Refusal) → written r ≡ written s → r ≡ s
+written_one =
+    result-one written
+    (λ n m e. let c : plains (written (Ok n)).carries ≡ plains (written (Ok m)).carries = ap (λ (a : Answer). plains a.carries) e in cc)
+    listed-one (λ n s. done-not-refused (written (Ok n)) s refl)
 
 -- a writer's contract gives one answer: what `left` says that an answer leaves is left
-pub writer-one : (left : Answer → List ℕ) {a : Answer} (r s : Written) {l m : List ℕ}
+pub writer-one : (left : Answer → List ℕ) {a : Answer} (r s : Result ℕ Refusal) {l m : List ℕ}
     → (written r ≡ a) × (l ≡ left (written r)) → (written s ≡ a) × (m ≡ left (written s)) → (r ≡ s) × (l ≡ m)
 writer-one left r s p q = let e = p.0 ∙ sym q.0 in (written_one r s e, p.1 ∙ ap left e ∙ sym q.1)
 
-pub checked-one : (r s : Check) → checked r ≡ checked s → r ≡ s
-checked-one check.Passes check.Passes e = refl
-checked-one check.Passes (check.Refused s) e = absurd (done-not-refused passes s refl e)
-checked-one (check.Refused r) check.Passes e = absurd (done-not-refused passes r refl (sym e))
-checked-one (check.Refused r) (check.Refused s) e = ap check.Refused (listed-one r s e)
+pub checked-one : (r s : Result ⊤ Refusal) → checked r ≡ checked s → r ≡ s
+checked-one = result-one checked (λ _ _ _. refl) listed-one (λ _ s. done-not-refused passes s refl)

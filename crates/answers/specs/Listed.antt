@@ -1,5 +1,5 @@
 -- This paper's number and values for each case of each enum: what the promises speak of.
-use Rattle.std.specs.Prelude.{◌≡◌, [], ◌∷◌, ◌⊎◌}
+use Rattle.std.specs.Prelude.{◌≡◌, [], ◌∷◌, ◌⊎◌, Ok, Err, Result, ℕ, ⊤}
 use Rattle.answers.specs.declared.Refusal.{Refusal}
 use Rattle.answers.specs.declared.Refusal.TheVariants.{
   TruncatedField,
@@ -16,10 +16,6 @@ use Rattle.answers.specs.declared.Refusal.TheVariants.{
   MalformedHeader,
   Asymmetric,
 }
-use Rattle.answers.specs.declared.Check.{Check}
-use Rattle.answers.specs.declared.Check.TheVariants as check
-use Rattle.answers.specs.declared.Written.{Written}
-use Rattle.answers.specs.declared.Written.TheVariants.{Done, Refused}
 use Rattle.answers.specs.Table.{Answer, answer, short, passes, bits64, wholes}
 
 abbrev pub listed : Refusal → Answer
@@ -37,13 +33,13 @@ listed (MalformedItem offset) = answer 10 (wholes (offset ∷ []))
 listed (MalformedHeader offset) = answer 11 (wholes (offset ∷ []))
 listed (Asymmetric i j) = answer 12 (wholes (i ∷ j ∷ []))
 
-abbrev pub written : Written → Answer
-written (Done n) = answer 0 (wholes (n ∷ []))
-written (Refused r) = listed r
+abbrev pub written : Result ℕ Refusal → Answer
+written (Ok n) = answer 0 (wholes (n ∷ []))
+written (Err r) = listed r
 
-abbrev pub checked : Check → Answer
-checked check.Passes = passes
-checked (check.Refused r) = listed r
+abbrev pub checked : Result ⊤ Refusal → Answer
+checked (Ok _) = passes
+checked (Err r) = listed r
 
 -- an answer of the table: done, or what a refusal lists as
 abbrev pub InTable : Answer → Type 0

@@ -4,7 +4,7 @@
 pub mod row;
 
 // Rows 1 to 12, in the table's order. A binary64 is carried as its bits, so that a refused NaN comes back bit for bit.
-#[derive(Clone, Copy)]
+#[derive(Clone, Copy, Debug, PartialEq, Eq)]
 pub enum Refusal {
     // 1, in bytes
     TruncatedField { needed: usize, got: usize },
@@ -32,18 +32,4 @@ pub enum Refusal {
     MalformedHeader { offset: usize },
     // 12: a matrix whose entries (i, j) and (j, i) differ
     Asymmetric { i: u64, j: u64 },
-}
-
-// What a rule, or a run of rules, answers.
-#[derive(Clone, Copy)]
-pub enum Check {
-    Passes,
-    Refused(Refusal),
-}
-
-// What a writer answers: how many bytes it wrote, or why it wrote none.
-#[derive(Clone, Copy)]
-pub enum Written {
-    Done(usize),
-    Refused(Refusal),
 }

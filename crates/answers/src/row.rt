@@ -4,8 +4,9 @@ ghost use Rattle.answers.specs.Row.{row, row_of};
 
 use crate::Refusal;
 
-// The first `count` values count, the others are 0. Where `floats`, they are the bits of binary64 numbers.
-#[derive(Clone, Copy)]
+// The first `count` values count, the others are 0. Where `floats`, they are the bits of binary64 numbers. Numbers and
+// a flag, and no enum: the table's columns, for whoever prints a row with no case for each.
+#[derive(Clone, Copy, Debug, PartialEq, Eq)]
 pub struct Row {
     pub number: u64,
     pub count: usize,

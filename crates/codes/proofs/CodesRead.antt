@@ -1,5 +1,6 @@
 -- Codes in mapped form: the word that one ends, and the bits that it reads as.
 -- Assumes nothing.
+use Rattle.std.specs.Prelude.{Err, Ok, Result}
 use Rattle.std.proofs.Common.{◌≡◌, ℕ, ◌+◌, ◌-◌, ◌*◌, ◌/◌, ◌%◌, ◌^◌, ◌<◌, ◌≤◌, Bool, true, false, eqb, List, length, take, drop, refl, ap, ◌∙◌, arith, drop-drop, take-add, pow_pos, pow_mono, eq-eqb}
 use native.Mathlib.Nat.{pow-succ'}
 use borrow.Author.Tests.{lt-leb}
@@ -9,24 +10,12 @@ use Rattle.answers.specs.Table.{pick}
 use Rattle.numbers.specs.Words.{word_of}
 use Rattle.numbers.proofs.Bytes.{last-bytes}
 use Rattle.imapb.specs.declared.decode.DecodedImapb.{DecodedImapb}
-use Rattle.imapb.specs.declared.decode.ImapbRead.{ImapbRead}
-use Rattle.imapb.specs.declared.decode.ImapbRead.TheVariants.{Done, Refused}
-use Rattle.imapb.specs.declared.mapping.Mapping.{Mapping}
-use Rattle.imapb.specs.Mapping.{scale_of, top_of}
+use Rattle.imapb.specs.Mapping.{top_of}
 use Rattle.imapb.specs.Special.{special_reading, reading}
 use Rattle.imapb.specs.Tables.{reads, imapb_listed, imapb_read}
 use Rattle.imapb.proofs.Length.{is-supported}
 use Rattle.elements.specs.Elements.{part, value_bits}
 use Rattle.elements.proofs.Parts.{part-whole}
-use Rattle.codes.specs.Fill.{Maps}
-
--- ---- what a mapping says of its length
-module _ (m : Mapping) (maps : Maps m) where
-  pub top-is : m.top ≡ top_of m.length
-  top-is = ap (λ (x : Mapping). x.top) maps.is
-
-  pub scale-is : m.scale ≡ scale_of m.length
-  scale-is = ap (λ (x : Mapping). x.scale) maps.is
 
 -- ---- a code of L bytes ends a word: its bits are the low ones
 module _ (L : ℕ) (least : 1 ≤ L) (most : L ≤ 8) where
@@ -58,10 +47,10 @@ module _ (L : ℕ) (least : 1 ≤ L) (most : L ≤ 8) (bytes : List ℕ) (at : �
   is_read : imapb_read L (part bytes at L) ≡ reads (reading L (word_of (part bytes at L)))
   is_read = rw (is-supported L least most, eq-eqb (length (part bytes at L)) L (part-whole bytes at L (omega arith)))
 
-  pub read_as : {r : ImapbRead} {d : DecodedImapb} → r ≡ Done d → imapb_listed r ≡ imapb_read L (part bytes at L) → d ≡ reading L (word_of (part bytes at L))
+  pub read_as : {r : Result DecodedImapb Refusal} {d : DecodedImapb} → r ≡ Ok d → imapb_listed r ≡ imapb_read L (part bytes at L) → d ≡ reading L (word_of (part bytes at L))
   read_as h e = let l = ap imapb_listed h in let r = is_read in cc
 
-  pub read-never : {r : ImapbRead} {x : Refusal} → r ≡ Refused x → imapb_listed r ≡ imapb_read L (part bytes at L) → ⊥
+  pub read-never : {r : Result DecodedImapb Refusal} {x : Refusal} → r ≡ Err x → imapb_listed r ≡ imapb_read L (part bytes at L) → ⊥
   read-never h e = let l = ap imapb_listed h in let r = is_read in let z : ◌≡◌ {A = ℕ} 0 1 = cc in omega arith
 
 -- ---- what is no value reads 0.0, and nothing above the code of 1 is one

@@ -1,25 +1,10 @@
--- What a loop counts: a turn leaves fewer, and each number fits its type; and the bytes of so many slots, eight to one.
+-- What a loop counts fits its type; and the bytes of so many slots, eight to one.
 -- Assumes nothing.
-use Rattle.std.proofs.Common.{◌≡◌, ℕ, ◌+◌, ◌-◌, ◌*◌, ◌/◌, ◌%◌, ◌^◌, ◌<◌, ◌≤◌, arith, w64, Fits}
-
--- ---- turn k of n
-module _ {k n : ℕ} (h : k < n) where
-  pub fewer : n - (k + 1) < n - k
-  fewer = omega arith
-
-  pub up : k + 1 ≤ n
-  up = omega arith
-
-  pub up_fits : n < 2 ^ 64 → Fits w64 (k + 1)
-  up_fits f = omega arith
+use Rattle.std.proofs.Common.{◌≡◌, ℕ, ◌+◌, ◌*◌, ◌/◌, ◌%◌, ◌^◌, ◌<◌, ◌≤◌, arith, w64, Fits}
 
 -- ---- numbers that fit
 pub within-fits : {x n : ℕ} → x ≤ n → n < 2 ^ 64 → Fits w64 x
 within-fits h f = omega arith
-
--- where entry x of n starts, eight bytes to an entry
-pub entry-fits : {x n : ℕ} → x ≤ n → n * 8 < 2 ^ 64 → Fits w64 (x * 8)
-entry-fits h f = omega arith
 
 -- ---- slots from `at` on
 module _ (at count : ℕ) {n : ℕ} (h : at + count ≤ n) where

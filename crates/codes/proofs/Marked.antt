@@ -9,11 +9,11 @@ use Rattle.answers.proofs.Lent.{length-tab, Front}
 use Rattle.answers.proofs.Stored.{sets-tab}
 use Rattle.numbers.specs.Words.{word_of}
 use Rattle.numbers.proofs.Bits.{or-least}
-use Rattle.imapb.specs.declared.mapping.Mapping.{Mapping}
+use Rattle.imapb.specs.declared.code_length.Mapping.{Mapping}
 use Rattle.imapb.specs.Special.{reading}
 use Rattle.layout.specs.Control.{is_set}
 use Rattle.elements.specs.Elements.{part, value_bits, vector_bit, ones_before}
-use Rattle.codes.specs.Fill.{Maps, Codes, Within, mark_in, marked_in, one_byte}
+use Rattle.codes.specs.Fill.{Codes, Within, mark_in, marked_in, one_byte}
 use Rattle.answers.proofs.Tab.{tab-none, tab-run, tab-done}
 use Rattle.elements.proofs.Parts.{ends}
 use Rattle.elements.proofs.Vector.{ones-grow}
@@ -21,9 +21,9 @@ use Rattle.codes.proofs.Bounds.{within_none, within_more, within-run}
 
 -- ---- codes one behind the other: code k of those that are there, and where the next one starts
 pub code-there : {bytes : List ℕ} {codes n : ℕ} {m : Mapping} → Codes bytes codes m n → {k at : ℕ} → k < n → at ≡ codes + k * m.length
-    → Maps m × (8 ≤ at) × (at + m.length ≤ length bytes)
+    → (8 ≤ at) × (at + m.length ≤ length bytes)
 code-there {codes = codes} {m = m} h l e =
-    rw e (h.maps, omega (arith, h.words), omega (arith, h.whole, ends codes m.length l))
+    rw e (omega (arith, h.words), omega (arith, h.whole, ends codes m.length l))
 
 pub code-next : (codes L k : ℕ) {at : ℕ} → at ≡ codes + k * L → at + L ≡ codes + (k + 1) * L
 code-next codes L k e = rw (e, add-one) (omega (arith, suc-mul k L))
@@ -70,7 +70,7 @@ module _ {byte : ℕ} {bytes : List ℕ} {at : ℕ} {m : Mapping} {from count : 
         marked : vector_bit (byte ∷ []) 0 j ≡ true
         marked = bit-alone byte j (omega arith) ∙ eq-eqb (byte / 2 ^ (7 - j) % 2) 1 t
 
-        pub group-code : Codes bytes at m (ones_before (byte ∷ []) 0 count) → Maps m × (8 ≤ next) × (next + m.length ≤ length bytes)
+        pub group-code : Codes bytes at m (ones_before (byte ∷ []) 0 count) → (8 ≤ next) × (next + m.length ≤ length bytes)
         group-code k =
             let n : ones_before (byte ∷ []) 0 j < ones_before (byte ∷ []) 0 count =
             omega (arith, ones-grow (byte ∷ []) 0 h, ap (λ (b : Bool). ones_before (byte ∷ []) 0 j + pick b 1 0) marked) in
@@ -138,7 +138,6 @@ module _ {bytes : List ℕ} {vector codes : ℕ} {m : Mapping} {slots : ℕ} {c�
     pub marked-codes : Codes bytes codes m (ones_before bytes vector slots) → Codes bytes next m (ones_before (one_byte bytes vector i) 0 count)
     marked-codes k =
         record {
-          maps = k.maps;
           words = omega (arith, k.words, f.on);
           whole = omega (arith, behind count most, k.whole, mul-le-mul_right m.length (ones-grow bytes vector h));
         }

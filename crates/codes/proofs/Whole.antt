@@ -1,6 +1,6 @@
 -- Rules a) to l): what each refusal comes to, what they say of a pack that passes them, and what is left in lent memory.
 -- Assumes nothing.
-use Rattle.std.proofs.Common.{◌≡◌, ℕ, ◌+◌, ◌/◌, ◌≤◌, Bool, true, false, List, length, sym, ap, ◌∙◌}
+use Rattle.std.proofs.Common.{◌≡◌, ℕ, ◌+◌, ◌/◌, ◌≤◌, Bool, true, false, List, length, sym, ap, ◌∙◌, Option}
 use Rattle.answers.specs.Lent.{over, tab}
 use Rattle.answers.specs.Listed.{listed}
 use Rattle.answers.specs.Outcome.{Outcome, found, refused}
@@ -14,7 +14,7 @@ use Rattle.answers.proofs.Outcome.{found-tells, found-where, refused-tells, refu
 use Rattle.layout.specs.Header.{control_of}
 use Rattle.layout.specs.Size.{fit_rules}
 use Rattle.layout.specs.Triangle.{slots_of}
-use Rattle.elements.specs.declared.head.Head.{Head}
+use Rattle.layout.specs.declared.header.Head.{Head}
 use Rattle.elements.specs.declared.head.Places.{Places}
 use Rattle.elements.specs.Elements.{head_of, places_of, codes_at, slot_in, correlations, states}
 use Rattle.elements.specs.Held.{Within, SlotsHeld}
@@ -28,7 +28,7 @@ use Rattle.rules.proofs.Held.{Held, held, rooms}
 use Rattle.codes.specs.Store.{store_rules, store_ready, by_words, left_by_words}
 
 -- ---- a pack that rules a) to k) pass
-module _ (range : DeviationRange) (bytes : List ℕ) (passed : (pack_rules range bytes).number ≡ 0) where
+module _ (range : Option DeviationRange) (bytes : List ℕ) (passed : (pack_rules range bytes).number ≡ 0) where
   abbrev h : Head
   h = head_of bytes
 
@@ -50,7 +50,7 @@ module _ (range : DeviationRange) (bytes : List ℕ) (passed : (pack_rules range
   vector-there e = rw e at within.vector
 
 -- ---- what is left of the slots' memory, where they are stored by words
-module _ (range : DeviationRange) (bytes : List ℕ) (ds : ℕ) (cs ss : List ℕ) where
+module _ (range : Option DeviationRange) (bytes : List ℕ) (ds : ℕ) (cs ss : List ℕ) where
   abbrev rules : Answer
   rules = store_rules range bytes ds (length cs) (length ss)
 
@@ -109,7 +109,7 @@ module _ (range : DeviationRange) (bytes : List ℕ) (ds : ℕ) (cs ss : List �
           (passed-all, rw (w, z) (rw are at a), rw (w, z) (rw are at b))
 
 -- ---- the slots of a pack that the rules pass, at the places that were found
-module _ (range : DeviationRange) (bytes : List ℕ) (ds : ℕ) (cs ss : List ℕ) {p : Places} {f : Form} (o : found (ready p f) ≡ store_ready range bytes ds (length cs) (length ss)) where
+module _ (range : Option DeviationRange) (bytes : List ℕ) (ds : ℕ) (cs ss : List ℕ) {p : Places} {f : Form} (o : found (ready p f) ≡ store_ready range bytes ds (length cs) (length ss)) where
   pub places-told : ((store_rules range bytes ds (length cs) (length ss)).number ≡ 0) × (ready p f ≡ ready_of range bytes)
   places-told = found-tells (store_rules range bytes ds (length cs) (length ss)) (ready_of range bytes) o
 

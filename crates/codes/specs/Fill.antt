@@ -2,19 +2,11 @@
 use Rattle.std.specs.Prelude.{◌≡◌, ℕ, ◌+◌, ◌*◌, ◌/◌, ◌<◌, ◌≤◌, true, List, [], ◌∷◌, length, slice_index}
 use Rattle.answers.specs.Table.{pick}
 use Rattle.numbers.specs.Words.{word_of}
-use Rattle.imapb.specs.declared.mapping.Mapping.{Mapping}
+use Rattle.imapb.specs.declared.code_length.Mapping.{Mapping}
 use Rattle.imapb.specs.Special.{reading}
-use Rattle.imapb.specs.declared.mapping.ImapbMapping.TheVariants.{Of}
-use Rattle.imapb.specs.Tables.{mapping_of, imapb_mapping}
 use Rattle.layout.specs.declared.control.ParseControl.{ParseControl}
 use Rattle.elements.specs.Elements.{part, vector_bit, ones_before, present_in, value_bits}
 use Rattle.elements.specs.Held.{SlotsHeld}
-
--- a mapping that the tables have
-pub record Maps (m : Mapping) : Type 0 where
-  pub is : m ≡ mapping_of m.length
-  pub least : 1 ≤ m.length
-  pub most : m.length ≤ 8
 
 -- ---- codes of L bytes in mapped form
 -- number n of those that start at `codes`
@@ -41,17 +33,17 @@ abbrev pub one_byte : List ℕ → ℕ → ℕ → List ℕ
 one_byte v at i = slice_index v (at + i) ∷ []
 
 -- n codes from `codes` on are there, and so much stands before them that each ends a word of eight bytes
+-- (of no type in src/: how many codes the slots of a Bit Vector have is not counted where they are read)
 pub record Codes (bytes : List ℕ) (codes : ℕ) (m : Mapping) (n : ℕ) : Type 0 where
-  pub maps : Maps m
   pub words : 8 ≤ codes
   pub whole : codes + n * m.length ≤ length bytes
 
--- ---- the codes of a pack, in mapped form, of a length that has a mapping, in the same way
+-- ---- the codes of a pack, in mapped form, of the length of a mapping, in the same way
 pub record Mapped (bytes : List ℕ) (vector codes : ℕ) (c : ParseControl) (m : Mapping) (slots : ℕ) : Type 0 where
   pub held : SlotsHeld bytes vector codes c slots
   pub vector-there : c.cs ≡ true → vector + (slots + 7) / 8 ≤ length bytes
   pub cf : c.cf ≡ true
-  pub mapping : imapb_mapping c.clen ≡ Of m
+  pub long : m.length ≡ c.clen
   pub words : 8 ≤ codes
 
 -- 1 for a slot that is present, and 0 for one that is absent

@@ -5,17 +5,16 @@ ghost use Rattle.std.specs.Float.Ieee.{of_int};
 ghost use Rattle.numbers.specs.Words.{word_of};
 ghost use Rattle.imapb.specs.Special.{reading};
 ghost use Rattle.elements.specs.Elements.{part, value_bits, state_of};
-ghost use Rattle.codes.specs.Fill.{Maps};
 
 use elements::slot::state_of;
-use imapb::decode::{ImapbRead, decode_imapb};
+use imapb::decode::decode_imapb;
 use imapb::mapping::Mapping;
 use numbers::words::read_be;
 use std::num::nearest_u64_to_f64;
 
 // The code that starts at a place: the last bytes of a word that ends with it.
 pub(crate) fn code_at(bytes: &[u8], at: usize, mapping: Mapping) -> u64
-    requires { Maps mapping × (8 ≤ at) × (at + mapping.length ≤ length_of bytes.now) }
+    requires { (8 ≤ at) × (at + mapping.length ≤ length_of bytes.now) }
     ensures { result ≡ word_of (part bytes.now at mapping.length) }
 {
     let end = at + mapping.length;
@@ -36,7 +35,6 @@ fn nearest(y: u64) -> f64
 
 // What a code reads as: every special lies above the largest value, and they all read 0.0.
 pub(crate) fn value_of(mapping: Mapping, y: u64) -> u64
-    requires { Maps mapping }
     ensures { result ≡ value_bits (reading mapping.length y) }
 {
     if mapping.top < y {
@@ -47,7 +45,7 @@ pub(crate) fn value_of(mapping: Mapping, y: u64) -> u64
 
 // What the code that starts at a place was: up to the top code it is a value.
 pub(crate) fn state_at(bytes: &[u8], at: usize, mapping: Mapping) -> u8
-    requires { Maps mapping × (8 ≤ at) × (at + mapping.length ≤ length_of bytes.now) }
+    requires { (8 ≤ at) × (at + mapping.length ≤ length_of bytes.now) }
     ensures { result
         ≡ state_of (reading mapping.length (word_of (part bytes.now at mapping.length))) }
 {
@@ -57,7 +55,7 @@ pub(crate) fn state_at(bytes: &[u8], at: usize, mapping: Mapping) -> u8
     let end = at + mapping.length;
     let read = decode_imapb(mapping.length, &bytes[at..end]);
     // never: a code of a length that has codes is there
-    let ImapbRead::Done(decoded) = read else {
+    let Ok(decoded) = read else {
         return 0;
     };
     state_of(decoded)

@@ -6,11 +6,10 @@ ghost use Rattle.elements.specs.Held.{SlotsHeld};
 ghost use Rattle.rules.specs.Decided.{decided_listed};
 ghost use Rattle.codes.specs.Store.{by_words, store_ready, left_by_words};
 
-use crate::states::fill_states;
-use crate::values::fill_values;
-use answers::Check;
+use crate::coded::Coded;
+use answers::Refusal;
 use deviations::form::DeviationRange;
-use imapb::mapping::{ImapbMapping, imapb_mapping};
+use imapb::mapping::imapb_mapping;
 use layout::control::ParseControl;
 use layout::triangle::corr_slots;
 use rules::decide::{Decided, decide};
@@ -50,35 +49,33 @@ fn fill_mapped(
         × (states.new
         ≡ over (tab slots (λ k. (slot_in bytes.now vector codes control k).state)) states.old) }
 {
-    let mapping = imapb_mapping(control.clen as usize);
     // never: the length has codes
-    let ImapbMapping::Of(mapping) = mapping else {
+    let Some(mapping) = imapb_mapping(control.clen as usize) else {
         return;
     };
-    let met = fill_values(
+    let coded = Coded {
         bytes,
         vector,
         codes,
         control,
         mapping,
         slots,
-        correlations,
-        states,
-    );
+    };
+    let met = coded.fill_values(correlations, states);
     if met <= mapping.top {
         return;
     }
-    fill_states(bytes, vector, codes, control, mapping, slots, states)
+    coded.fill_states(states)
 }
 
 // Rules a) to l), with so much room for deviations; and then the slots, where they are read by words.
 pub fn store_mapped(
     bytes: &[u8],
-    range: DeviationRange,
+    range: Option<DeviationRange>,
     room: usize,
     correlations: &mut [u64],
     states: &mut [u8],
-) -> Decided
+) -> Result<Decided, Refusal>
     ensures { (decided_listed result
         ≡ store_ready range bytes.now room (length correlations.old)
         (length states.old))
@@ -91,17 +88,12 @@ pub fn store_mapped(
         (length states.old)
         (states_of bytes.now (head_of bytes.now)) states.old) }
 {
-    let decided = decide(bytes, range);
-    let Decided::Pack { places, form: _ } = decided else {
-        return decided;
-    };
+    let decided = decide(bytes, range)?;
+    let places = decided.places;
     let head = places.head;
-    let rooms = check_rooms(head, room, correlations.len(), states.len());
-    if let Check::Refused(refusal) = rooms {
-        return Decided::Refused(refusal);
-    }
+    check_rooms(head, room, correlations.len(), states.len())?;
     if !by_words(head.control, places.codes) {
-        return decided;
+        return Ok(decided);
     }
     let slots = corr_slots(head.n) as usize;
     fill_mapped(
@@ -113,5 +105,5 @@ pub fn store_mapped(
         correlations,
         states,
     );
-    decided
+    Ok(decided)
 }

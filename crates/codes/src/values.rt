@@ -3,11 +3,11 @@ ghost use Rattle.std.specs.Prelude.{◌≡◌, ◌+◌, ◌*◌, ◌/◌, ◌<�
 ghost use Rattle.std.proofs.lemmas.List.Edits.{sets};
 ghost use Rattle.answers.specs.Lent.{over, tab};
 ghost use Rattle.elements.specs.Elements.{ones_before, present_before, slot_in};
-ghost use Rattle.codes.specs.Fill.{mapped_in, mark_in, marked_in, one_byte, Codes, Within, Mapped, present_as1};
+ghost use Rattle.codes.specs.Fill.{mapped_in, mark_in, marked_in, one_byte, Codes, Within, present_as1};
 
+use crate::coded::Coded;
 use crate::mapped::{code_at, value_of};
 use imapb::mapping::Mapping;
-use layout::control::ParseControl;
 
 // Mapped codes, all present.
 fn fill_all(
@@ -27,14 +27,12 @@ fn fill_all(
 {
     let mut met: u64 = 0;
     let mut at = codes;
-    let mut k: usize = 0;
-    while k < slots {
+    for k in 0..slots {
         let y = code_at(bytes, at, mapping);
         met = met | y;
         correlations[k] = value_of(mapping, y);
         states[k] = 1;
         at += mapping.length;
-        k += 1;
     }
     met
 }
@@ -74,8 +72,7 @@ fn fill_group(
     let from = 8 * i;
     let mut seen = met;
     let mut next = at;
-    let mut j: usize = 0;
-    while j < count {
+    for j in 0..count {
         let k = from + j;
         correlations[k] = 0;
         states[k] = 0;
@@ -86,7 +83,6 @@ fn fill_group(
             states[k] = 1;
             next += mapping.length;
         }
-        j += 1;
     }
     Reached { next, met: seen }
 }
@@ -113,8 +109,7 @@ fn fill_marked(
     let whole = slots / 8;
     let mut met: u64 = 0;
     let mut next = codes;
-    let mut i: usize = 0;
-    while i < whole {
+    for i in 0..whole {
         let reached = fill_group(
             bytes,
             vector,
@@ -128,7 +123,6 @@ fn fill_marked(
         );
         met = reached.met;
         next = reached.next;
-        i += 1;
     }
     let rest = slots % 8;
     if 0 < rest {
@@ -148,29 +142,37 @@ fn fill_marked(
     met
 }
 
-// The correlations of all slots, 0.0 where a code is no value, and 1 for each that is present.
-pub(crate) fn fill_values(
-    bytes: &[u8],
-    vector: usize,
-    codes: usize,
-    control: ParseControl,
-    mapping: Mapping,
-    slots: usize,
-    correlations: &mut [u64],
-    states: &mut [u8],
-) -> u64
-    requires { Mapped bytes.now vector codes control mapping slots × (slots ≤ length correlations.old)
-        × (slots ≤ length states.old) }
-    ensures { (correlations.new
-        ≡ over (tab slots (λ k. (slot_in bytes.now vector codes control k).bits)) correlations.old)
-        × (states.new
-        ≡ over (tab slots (present_as1 bytes.now vector control)) states.old)
-        × Within bytes.now codes mapping.length
-        (present_before bytes.now vector control slots) result }
-{
-    if control.cs {
-        fill_marked(bytes, vector, codes, mapping, slots, correlations, states)
-    } else {
-        fill_all(bytes, codes, mapping, slots, correlations, states)
+impl Coded<'_> {
+    // The correlations of all slots, 0.0 where a code is no value, and 1 for each that is present.
+    pub(crate) fn fill_values(&self, correlations: &mut [u64], states: &mut [u8]) -> u64
+        requires { (self.now.slots ≤ length correlations.old) × (self.now.slots ≤ length states.old) }
+        ensures { (correlations.new
+            ≡ over (tab self.now.slots
+            (λ k. (slot_in self.now.bytes.now self.now.vector self.now.codes self.now.control k).bits)) correlations.old)
+            × (states.new
+            ≡ over (tab self.now.slots (present_as1 self.now.bytes.now self.now.vector self.now.control)) states.old)
+            × Within self.now.bytes.now self.now.codes self.now.mapping.length
+            (present_before self.now.bytes.now self.now.vector self.now.control self.now.slots) result }
+    {
+        if self.control.cs {
+            fill_marked(
+                self.bytes,
+                self.vector,
+                self.codes,
+                self.mapping,
+                self.slots,
+                correlations,
+                states,
+            )
+        } else {
+            fill_all(
+                self.bytes,
+                self.codes,
+                self.mapping,
+                self.slots,
+                correlations,
+                states,
+            )
+        }
     }
 }

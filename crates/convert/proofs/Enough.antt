@@ -9,13 +9,15 @@ use native.Mathlib.Omega.{arith}
 use borrow.Author.Tests.{eqb-true, lt-ltb, le-ltb}
 use lib.Dec.{T, eqb, leb, ltb}
 use lib.ListN.{length, length-append}
+use Rattle.std.specs.Prelude.{Result, Ok, Err, None}
 use Rattle.answers.specs.Table.{Entry, Answer, answer, wholes, pick, next, each, room_rule}
 use Rattle.answers.proofs.Next.{next-zero}
 use Rattle.answers.proofs.Rules.{picked}
 use Rattle.numbers.specs.BerOid.{oid_length}
 use Rattle.imapb.specs.Tables.{range_rule}
-use Rattle.layout.specs.declared.header.Header.{Header}
-use Rattle.layout.specs.declared.header.Header.TheVariants.{Open, Unreadable, Short}
+use Rattle.layout.specs.declared.header.Head.{Head}
+use Rattle.layout.specs.declared.header.HeaderError.{HeaderError}
+use Rattle.layout.specs.declared.header.HeaderError.TheVariants.{Unreadable, Short}
 use Rattle.layout.specs.Header.{said_size, header_refusal}
 use Rattle.layout.specs.Size.{fit_rules, limit_rule}
 use Rattle.layout.specs.Triangle.{slots_of}
@@ -23,7 +25,6 @@ use Rattle.layout.proofs.Peek.{fit-answers, size-answers}
 use Rattle.layout.proofs.RowByRow.{few-slots}
 use Rattle.elements.specs.Elements.{head_of, deviations, correlations, deviation_count}
 use Rattle.elements.proofs.Opened.{fit-within}
-use Rattle.deviations.specs.declared.form.DeviationRange.TheVariants.{Unknown}
 use Rattle.rules.specs.Rules.{element_rules, pack_rules, rooms_rule, room_rules}
 use Rattle.rules.proofs.Held.{count-le}
 use Rattle.rules.proofs.Named.{element-answers}
@@ -77,23 +78,23 @@ fine-rooms : (rows slots : ℕ) → rows ≤ max_rows → slots ≤ max_slots �
 fine-rooms rows slots h k = rw (le-ltb max_rows rows h, le-ltb max_slots slots k) (fine-answer _ _ tt tt)
 
 -- ---- the reader
-fine-head : (h : Header) → Fine (header_refusal h)
-fine-head Unreadable = fine-answer _ _ tt tt
-fine-head Short = fine-answer _ _ tt tt
-fine-head (Open n control body) = fine-answer _ _ tt tt
+fine-head : (h : Result Head HeaderError) → Fine (header_refusal h)
+fine-head (Err Unreadable) = fine-answer _ _ tt tt
+fine-head (Err Short) = fine-answer _ _ tt tt
+fine-head (Ok head) = fine-answer _ _ tt tt
 
-pack-fine : (bytes : List ℕ) → Fine (pack_rules Unknown bytes)
+pack-fine : (bytes : List ℕ) → Fine (pack_rules None bytes)
 pack-fine bytes =
-    rw (fit-answers bytes, size-answers, element-answers Unknown bytes (head_of bytes)) (search (fine-answer, fine-pick, fine-head, fine-each) depth 20)
+    rw (fit-answers bytes, size-answers, element-answers None bytes (head_of bytes)) (search (fine-answer, fine-pick, fine-head, fine-each) depth 20)
 
 read-fine : (bytes : List ℕ) → Fine (read_answer bytes max_rows max_slots max_slots)
 read-fine bytes =
     let h = head_of bytes in
     let n = said_size bytes in
     let rooms = room_rules h max_rows max_slots max_slots in
-    fine-after (next (pack_rules Unknown bytes) rooms) (done h)
-    (fine-after (pack_rules Unknown bytes) rooms (pack-fine bytes)
-    (λ z. let few = (fit-within bytes (next-zero (fit_rules bytes) (element_rules Unknown bytes h) z).0).rows in
+    fine-after (next (pack_rules None bytes) rooms) (done h)
+    (fine-after (pack_rules None bytes) rooms (pack-fine bytes)
+    (λ z. let few = (fit-within bytes (next-zero (fit_rules bytes) (element_rules None bytes h) z).0).rows in
     fine-rooms (deviation_count h) (slots_of n) (omega (arith, count-le h)) (few-slots n few)))
     (λ _. fine-answer _ _ tt tt)
 

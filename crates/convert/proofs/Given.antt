@@ -5,6 +5,7 @@ use mathlib.Core.List.{List, [], ◌∷◌}
 use Prim.Native.Nat.{ℕ, ◌≤◌}
 use native.Mathlib.Omega.{arith}
 use lib.ListN.{length, take, length-take}
+use Rattle.std.specs.Prelude.{Err, Ok, Result}
 use Rattle.answers.specs.declared.Refusal.{Refusal}
 use Rattle.answers.specs.Table.{Answer, answer, wholes, next}
 use Rattle.answers.specs.Listed.{listed}
@@ -14,25 +15,23 @@ use Rattle.answers.proofs.Next.{next-passed}
 use Rattle.answers.proofs.OneToOne.{refused-not-done}
 use Rattle.layout.specs.declared.pack.SdccFlp.{SdccFlp}
 use Rattle.reader.specs.Listed.{read_listed}
-use Rattle.reader.specs.declared.read.ReadAnswer.{ReadAnswer}
-use Rattle.reader.specs.declared.read.ReadAnswer.TheVariants.{Done, Refused}
 use Rattle.report.proofs.Done.{left-front}
 
 -- the answer a, which carries N and the two counts where it is done, with ds over ds₀ and cs over cs₀
-pub record Given (a : Answer) (n : ℕ) (ds cs ds₀ cs₀ : List ℕ) (r : ReadAnswer) (ds' cs' : List ℕ) : Type 0 where
+pub record Given (a : Answer) (n : ℕ) (ds cs ds₀ cs₀ : List ℕ) (r : Result SdccFlp Refusal) (ds' cs' : List ℕ) : Type 0 where
   pub answers : read_listed r ≡ a
   pub done : a.number ≡ 0 → a ≡ answer 0 (wholes (n ∷ length ds ∷ length cs ∷ []))
   pub deviations : ds' ≡ leaves (read_listed r) ds ds₀
   pub correlations : cs' ≡ leaves (read_listed r) cs cs₀
 
-module _ {a : Answer} {n : ℕ} {ds cs ds₀ cs₀ : List ℕ} {r : ReadAnswer} {ds' cs' : List ℕ} (g : Given a n ds cs ds₀ cs₀ r ds' cs') where
+module _ {a : Answer} {n : ℕ} {ds cs ds₀ cs₀ : List ℕ} {r : Result SdccFlp Refusal} {ds' cs' : List ℕ} (g : Given a n ds cs ds₀ cs₀ r ds' cs') where
   -- a refusal ends the order, and leaves what is lent as it was
-  pub stays : {f : Refusal} → r ≡ Refused f → (b : Answer) (made l : List ℕ) → (listed f ≡ next a b) × (l ≡ leaves (listed f) made l)
+  pub stays : {f : Refusal} → r ≡ Err f → (b : Answer) (made l : List ℕ) → (listed f ≡ next a b) × (l ≡ leaves (listed f) made l)
   stays {f} e b made l =
       let q : listed f ≡ a = rw e at g.answers in
       (rw (← q, refused-not-done f), sym (refused-leaves f made l))
 
-  module _ {p : SdccFlp} (e : r ≡ Done p) where
+  module _ {p : SdccFlp} (e : r ≡ Ok p) where
     zero : a.number ≡ 0
     zero = sym (ap (λ (x : Answer). x.number) (rw e at g.answers))
 

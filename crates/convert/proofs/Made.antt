@@ -6,9 +6,8 @@ use Prim.Native.Nat.{ℕ, min, ◌≤◌}
 use native.Mathlib.Nat.{zero-add}
 use native.Mathlib.Omega.{arith}
 use lib.ListN.{length}
+use Rattle.std.specs.Prelude.{Err, Ok, Result}
 use Rattle.answers.specs.declared.Refusal.{Refusal}
-use Rattle.answers.specs.declared.Written.{Written}
-use Rattle.answers.specs.declared.Written.TheVariants.{Done, Refused}
 use Rattle.answers.specs.Table.{Answer, answer, wholes}
 use Rattle.answers.specs.Listed.{listed, written}
 use Rattle.answers.specs.Lent.{leaves}
@@ -39,10 +38,10 @@ pub record Makes (a : Answer) (bytes : List ℕ) (room : ℕ) : Type 0 where
   pub done : a.number ≡ 0 → (a ≡ answer 0 (wholes (length bytes ∷ []))) × (length bytes ≤ room)
 
 -- what a writer has answered and left
-module _ {a : Answer} (bytes l : List ℕ) {w : Written} {l' : List ℕ} (e : written w ≡ a) (left : l' ≡ leaves (written w) bytes l) where
-  pub streams-made : Makes a bytes (length l) → {k : ℕ} → w ≡ Done k → Streams (made a bytes) l (Output k) l'
+module _ {a : Answer} (bytes l : List ℕ) {w : Result ℕ Refusal} {l' : List ℕ} (e : written w ≡ a) (left : l' ≡ leaves (written w) bytes l) where
+  pub streams-made : Makes a bytes (length l) → {k : ℕ} → w ≡ Ok k → Streams (made a bytes) l (Output k) l'
   streams-made m {k} d =
-      let f : written (Done k) ≡ a = rw d at e in
+      let f : written (Ok k) ≡ a = rw d at e in
       let z : a.number ≡ 0 = sym (ap (λ (x : Answer). x.number) f) in
       let h = m.done z in
       let c = ap (λ (x : Answer). x.carries) (f ∙ h.0) in
@@ -50,7 +49,7 @@ module _ {a : Answer} (bytes l : List ℕ) {w : Written} {l' : List ℕ} (e : wr
       let s : min (length bytes) (length l) ≡ length bytes = omega (arith, h.1) in
       rw z record { told = rw (s, q); stored = rw d at left ∙ sym (sets_over bytes l h.1) }
 
-  pub streams-refused : {f : Refusal} → w ≡ Refused f → {r : Streamed} {m : List ℕ} → Streams (errors (refused_line (listed f))) l' r m → Streams (made a bytes) l r m
+  pub streams-refused : {f : Refusal} → w ≡ Err f → {r : Streamed} {m : List ℕ} → Streams (errors (refused_line (listed f))) l' r m → Streams (made a bytes) l r m
   streams-refused {f} d s =
       let q : listed f ≡ a = rw d at e in
       let same : l' ≡ l = rw d at left ∙ refused-leaves f bytes l in

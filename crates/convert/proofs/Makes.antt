@@ -5,14 +5,13 @@ use mathlib.Core.List.{List, [], ◌∷◌}
 use Prim.Native.Nat.{ℕ}
 use native.Mathlib.Omega.{arith}
 use lib.ListN.{length}
+use Rattle.std.specs.Prelude.{Result, None}
 use Rattle.answers.specs.Table.{Answer, answer, wholes, next, room_rule}
 use Rattle.answers.proofs.Lent.{length-tab}
 use Rattle.answers.proofs.Next.{next-passed, next-zero}
 use Rattle.layout.specs.Header.{said_size}
 use Rattle.layout.specs.Triangle.{slots_of}
 use Rattle.elements.specs.Elements.{head_of, deviations, correlations}
-use Rattle.deviations.specs.declared.form.DeviationRange.TheVariants.{Unknown}
-use Rattle.reader.specs.declared.read.ReadAnswer.{ReadAnswer}
 use Rattle.reader.specs.Listed.{read_listed}
 use Rattle.reader.specs.Rules.{read_answer}
 use Rattle.reader.proofs.Peeked.{read_done}
@@ -33,20 +32,22 @@ use Rattle.packs.specs.Printed.{max_rows, max_slots}
 use Rattle.convert.specs.Converted.{npy_answer, npy_of, pack_answer, pack_of}
 use Rattle.convert.proofs.Given.{Given}
 use Rattle.convert.proofs.Made.{Makes}
+use Rattle.layout.specs.declared.pack.SdccFlp.{SdccFlp}
+use Rattle.answers.specs.declared.Refusal.{Refusal}
 
 -- ---- what is read, where rooms for so many are lent
 module _ (ds₀ cs₀ ss₀ : List ℕ) (d : max_rows ≡ length ds₀) (c : max_slots ≡ length cs₀) (s : max_slots ≡ length ss₀) where
-  pub pack-given : (bytes : List ℕ) {r : ReadAnswer} {ds cs ss : List ℕ} → Meets Unknown bytes ds₀ cs₀ ss₀ r ds cs ss
+  pub pack-given : (bytes : List ℕ) {r : Result SdccFlp Refusal} {ds cs ss : List ℕ} → Meets None bytes ds₀ cs₀ ss₀ r ds cs ss
       → Given (read_answer bytes max_rows max_slots max_slots) (said_size bytes) (deviations bytes (head_of bytes)) (correlations bytes (head_of bytes)) ds₀ cs₀ r ds cs
   pack-given bytes m =
       record {
         answers = m.0 ∙ rw (← d, ← c, ← s);
-        done = λ z. read_done Unknown bytes max_rows max_slots max_slots z ∙ simp length-tab;
+        done = λ z. read_done None bytes max_rows max_slots max_slots z ∙ simp length-tab;
         deviations = m.1;
         correlations = m.2;
       }
 
-  pub file-given : (file : List ℕ) {r : ReadAnswer} {ds cs ss : List ℕ} → Imported file ds₀ cs₀ ss₀ (read_listed r) ds cs ss
+  pub file-given : (file : List ℕ) {r : Result SdccFlp Refusal} {ds cs ss : List ℕ} → Imported file ds₀ cs₀ ss₀ (read_listed r) ds cs ss
       → Given (import_answer file max_rows max_slots max_slots) (size_in file) (deviations_in file (size_in file)) (correlations_in file (size_in file)) ds₀ cs₀ r ds cs
   file-given file m =
       let n = size_in file in

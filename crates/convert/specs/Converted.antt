@@ -1,5 +1,5 @@
 -- Document 02, K8: what the programs that make a .npy file of a pack, and a pack of a .npy file, write for which input.
-use Rattle.std.specs.Prelude.{ℕ, List, length}
+use Rattle.std.specs.Prelude.{ℕ, List, length, None, Some, Option}
 use Rattle.answers.specs.Table.{Answer, pick, next}
 use Rattle.layout.specs.Header.{said_size}
 use Rattle.elements.specs.Elements.{head_of, deviations, correlations}
@@ -13,8 +13,6 @@ use Rattle.npy_export.specs.Rules.{export_answer}
 use Rattle.npy.specs.Rules.{import_answer}
 use Rattle.report.specs.Lines.{too_big_line}
 use Rattle.packs.specs.Printed.{is_too_big, max_rows, max_slots}
-use Rattle.convert.specs.declared.pack.Clen.{Clen}
-use Rattle.convert.specs.declared.pack.Clen.TheVariants.{Default, Named}
 use Rattle.convert.specs.Stream.{Stream, errors, made}
 
 -- what is made of an input, unless that is longer than is read
@@ -37,9 +35,9 @@ module _ (bytes : List ℕ) where
   npy_stream room = unless_too_big bytes (made (npy_answer room) npy_of)
 
 -- ---- the pack of a .npy file, with a Clen
-abbrev pub clen_of : Clen → ℕ
-clen_of Default = default_clen
-clen_of (Named L) = L
+abbrev pub clen_of : Option ℕ → ℕ
+clen_of None = default_clen
+clen_of (Some L) = L
 
 module _ (file : List ℕ) (L : ℕ) where
   -- import's answer, with room for so many, where it refuses, and otherwise the writer's

@@ -5,28 +5,28 @@ ghost use Rattle.answers.specs.Lent.{leaves};
 ghost use Rattle.convert.specs.Stream.{Streams};
 ghost use Rattle.convert.specs.Converted.{npy_answer, npy_of, npy_stream};
 
-use crate::rooms::{room_for_correlations, room_for_deviations, room_for_states};
 use crate::stream::{Streamed, refused, too_big};
-use answers::Written;
+use answers::Refusal;
 use npy_export::export::export_npy;
 use packs::first::is_too_big;
-use packs::pack::MAX_ROWS;
-use reader::read::{ReadAnswer, decode_sdcc_flp};
+use packs::pack::{MAX_ROWS, MAX_SLOTS};
+use reader::read::decode_sdcc_flp;
+use text::room::room_of;
 
 // Any file fits, and any line.
 pub const ROOM: usize = 128 + 8 * MAX_ROWS * MAX_ROWS;
 
 // The pack is read, and what it holds is exported.
-fn put_npy(bytes: &[u8], out: &mut [u8]) -> Written
+fn put_npy(bytes: &[u8], out: &mut [u8]) -> Result<usize, Refusal>
     ensures { (written result ≡ npy_answer bytes.now (length out.old))
         × (out.new ≡ leaves (written result) (npy_of bytes.now) out.old) }
 {
-    let mut deviations = room_for_deviations();
-    let mut correlations = room_for_correlations();
-    let mut states = room_for_states();
+    let mut deviations: [u64; MAX_ROWS] = room_of(0);
+    let mut correlations: [u64; MAX_SLOTS] = room_of(0);
+    let mut states: [u8; MAX_SLOTS] = room_of(0);
     let read = decode_sdcc_flp(bytes, &mut deviations, &mut correlations, &mut states);
     match read {
-        ReadAnswer::Done(pack) => {
+        Ok(pack) => {
             let rows = pack.deviations;
             let slots = pack.slots;
             export_npy(
@@ -36,7 +36,7 @@ fn put_npy(bytes: &[u8], out: &mut [u8]) -> Written
                 out,
             )
         }
-        ReadAnswer::Refused(refusal) => Written::Refused(refusal),
+        Err(refusal) => Err(refusal),
     }
 }
 
@@ -50,7 +50,7 @@ pub fn npy_of_pack(bytes: &[u8], out: &mut [u8]) -> Streamed
     }
     let made = put_npy(bytes, out);
     match made {
-        Written::Done(length) => Streamed::Output(length),
-        Written::Refused(refusal) => refused(refusal, out),
+        Ok(length) => Streamed::Output(length),
+        Err(refusal) => refused(refusal, out),
     }
 }

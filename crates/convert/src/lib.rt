@@ -3,5 +3,4 @@
 
 pub mod file;
 pub mod pack;
-mod rooms;
 pub mod stream;

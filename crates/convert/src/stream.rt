@@ -6,10 +6,10 @@ ghost use Rattle.convert.specs.Stream.{errors, Streams};
 
 use answers::Refusal;
 use lines::refusal::put_refusal;
-use text::put::put_text;
+use text::page::Page;
 
-// So many bytes at the front of lent memory.
-#[derive(Clone, Copy)]
+// So many bytes at the front of lent memory. No `Result`: both texts are written, and neither is an error here.
+#[derive(Clone, Copy, Debug, PartialEq, Eq)]
 pub enum Streamed {
     Output(usize),
     Errors(usize),
@@ -18,11 +18,15 @@ pub enum Streamed {
 pub(crate) fn too_big(out: &mut [u8]) -> Streamed
     ensures { Streams (errors too_big_line) out.old result out.new }
 {
-    Streamed::Errors(put_text(b"too big for this program\n", 0, out))
+    let mut page = Page::new(0, out);
+    page.text(b"too big for this program\n");
+    Streamed::Errors(page.place())
 }
 
 pub(crate) fn refused(refusal: Refusal, out: &mut [u8]) -> Streamed
     ensures { Streams (errors (refused_line (listed refusal))) out.old result out.new }
 {
-    Streamed::Errors(put_refusal(refusal, 0, out))
+    let mut line = Page::new(0, out);
+    put_refusal(refusal, &mut line);
+    Streamed::Errors(line.place())
 }

@@ -11,6 +11,7 @@ use borrow.Author.Tests.{eq-eqb, lt-ltb, eqb-false}
 use lib.Dec.{eqb}
 use lib.Ieee.{Float}
 use lib.ListN.{length}
+use Rattle.std.specs.Prelude.{Err, Ok, Option, Some, None}
 use Rattle.answers.specs.Table.{Answer, wholes, next}
 use Rattle.answers.specs.Listed.{listed}
 use Rattle.answers.proofs.Next.{IsRule, says-passes, says-refused, rules}
@@ -22,14 +23,12 @@ use Rattle.imapb.specs.declared.decode.DecodedImapb.{DecodedImapb}
 use Rattle.imapb.specs.declared.decode.DecodedImapb.TheVariants.{Value, Special, ReservedSpecial, OutOfRange}
 use Rattle.ranges.specs.Range.{good_range, reading_in}
 use Rattle.ranges.specs.Tables.{mapped_reading, worked_out, worked_read}
-use Rattle.ranges.specs.declared.mapping.ImapbRange.TheVariants.{Of, Refused}
 use Rattle.ranges.proofs.Reading.{good-told, worked-out-is}
 use Rattle.layout.specs.declared.control.ParseControl.{ParseControl}
 use Rattle.elements.specs.Elements.{part}
 use Rattle.elements.specs.Numbers.{element_rule}
 use Rattle.elements.proofs.Parts.{part-whole}
 use Rattle.deviations.specs.declared.form.DeviationRange.{DeviationRange}
-use Rattle.deviations.specs.declared.form.DeviationRange.TheVariants.{Unknown, Known}
 use Rattle.deviations.specs.Range.{lent_rule, value_rule, format_over, row_part, deviation_over}
 use Rattle.deviations.specs.declared.form.DeviationForm.{DeviationForm}
 use Rattle.deviations.specs.declared.form.DeviationForm.TheVariants.{Plain, Mapped}
@@ -57,27 +56,27 @@ module _ (bytes : List ℕ) (at : ℕ) (c : ParseControl) (row : ℕ) where
         (λ s. rw s)
 
   -- rule h) of one deviation
-  pub form-rule : (range : DeviationRange) → (lent_rule range).number ≡ 0
+  pub form-rule : (range : Option DeviationRange) → (lent_rule range).number ≡ 0
       → element_rule bytes at c.slen (form_format (form_of range c) c row raw) ≡ element_rule bytes at c.slen (format_over range c row raw)
-  form-rule Unknown z = refl
-  form-rule (Known min max) z =
+  form-rule None z = refl
+  form-rule (Some range) z =
       by_bool c.sf
       (λ t. rw t
       (elim (dec_le c.slen (length bytes - at)) [
-        | yes h ↦ rw (mapped-rule min max (good-told min max z) h)
+        | yes h ↦ rw (mapped-rule range.min range.max (good-told range.min range.max z) h)
         | no h ↦ rw (lt-ltb (length bytes - at) c.slen (lt_of_not-le h))
       ]))
       (λ f. rw f)
 
 -- and its number, where it is not refused: row i of those that start at `at`
-pub form-bits : (bytes : List ℕ) (at : ℕ) (c : ParseControl) (i : ℕ) (range : DeviationRange) → (lent_rule range).number ≡ 0
+pub form-bits : (bytes : List ℕ) (at : ℕ) (c : ParseControl) (i : ℕ) (range : Option DeviationRange) → (lent_rule range).number ≡ 0
     → c.slen ≤ length bytes - (at + i * c.slen) → (form_format (form_of range c) c i (row_part bytes at c i)).number ≡ 0
     → form_bits (form_of range c) c (row_part bytes at c i) ≡ deviation_over range bytes at c i
-form-bits bytes at c i Unknown z there e = refl
-form-bits bytes at c i (Known min max) z there e =
+form-bits bytes at c i None z there e = refl
+form-bits bytes at c i (Some range) z there e =
     by_bool c.sf
     (λ t. by_bool (supported c.slen)
-    (λ s. rw (t, worked-is min max c.slen (good-told min max z) s (row_part bytes at c i) (part-whole bytes (at + i * c.slen) c.slen there)))
+    (λ s. rw (t, worked-is range.min range.max c.slen (good-told range.min range.max z) s (row_part bytes at c i) (part-whole bytes (at + i * c.slen) c.slen there)))
     (λ s. absurd (let n : ◌≡◌ {A = ℕ} 4 0 = rw (t, s) at e in omega arith)))
     (λ f. rw f)
 
@@ -95,6 +94,6 @@ reading-says row rules d =
 
 pub form-says : (form : DeviationForm) (c : ParseControl) (row : ℕ) (raw : List ℕ) → IsRule (form_format (form_listed form) c row raw)
 form-says Plain c row raw = search rules
-form-says (Mapped (Of m)) c row raw =
+form-says (Mapped (Ok m)) c row raw =
     reading-says row (code_rules m.length raw) (mapped_reading m (word_of raw))
-form-says (Mapped (Refused r)) c row raw = record { done = λ z. absurd (done-not-refused (listed r) r z refl) }
+form-says (Mapped (Err r)) c row raw = record { done = λ z. absurd (done-not-refused (listed r) r z refl) }

@@ -1,5 +1,5 @@
 -- How deviations are read, worked out of a range and a control; and one deviation by it.
-use Rattle.std.specs.Prelude.{ℕ, List}
+use Rattle.std.specs.Prelude.{ℕ, List, Option, Some, None}
 use Rattle.answers.specs.Table.{Answer, pick}
 use Rattle.answers.specs.Outcome.{Outcome, unless}
 use Rattle.imapb.specs.Tables.{Reading, reads}
@@ -11,7 +11,6 @@ use Rattle.elements.specs.Elements.{part, ieee, value_bits}
 use Rattle.elements.specs.Formats.{deviation_format}
 use Rattle.elements.specs.Numbers.{element}
 use Rattle.deviations.specs.declared.form.DeviationRange.{DeviationRange}
-use Rattle.deviations.specs.declared.form.DeviationRange.TheVariants.{Unknown, Known}
 use Rattle.deviations.specs.declared.form.DeviationForm.{DeviationForm}
 use Rattle.deviations.specs.declared.form.DeviationForm.TheVariants.{Plain, Mapped}
 use Rattle.deviations.specs.Range.{value_rule}
@@ -26,9 +25,9 @@ form_listed Plain = plain
 form_listed (Mapped range) = mapped (range_listed range)
 
 -- the range counts only where Sf=1
-abbrev pub form_of : DeviationRange → ParseControl → Form
-form_of Unknown c = plain
-form_of (Known min max) c = pick c.sf (mapped (worked_out min max c.slen)) plain
+abbrev pub form_of : Option DeviationRange → ParseControl → Form
+form_of None c = plain
+form_of (Some range) c = pick c.sf (mapped (worked_out range.min range.max c.slen)) plain
 
 -- ---- one deviation by its form: what it refuses, and its number
 abbrev pub reading_rule : ℕ → Reading → Answer

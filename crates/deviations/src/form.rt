@@ -4,41 +4,42 @@ ghost use Rattle.answers.specs.Listed.{checked};
 ghost use Rattle.deviations.specs.Form.{form_listed, form_of};
 ghost use Rattle.deviations.specs.Range.{lent_rule};
 
-use answers::Check;
+use answers::Refusal;
 use layout::control::ParseControl;
-use ranges::mapping::{ImapbRange, range_mapping};
+use ranges::mapping::{RangeMapping, range_mapping};
 use ranges::range::{ImapbParams, check_range};
 
 // The range of deviations in mapped form, which no pack says: unknown, or lent with it.
-#[derive(Clone, Copy)]
-pub enum DeviationRange {
-    Unknown,
-    Known { min: f64, max: f64 },
+#[derive(Clone, Copy, Debug, PartialEq)]
+pub struct DeviationRange {
+    pub min: f64,
+    pub max: f64,
 }
 
-#[derive(Clone, Copy)]
+// Two ways of reading, and neither is the want of one, which an `Option` of a `Result` would say.
+#[derive(Clone, Copy, Debug, PartialEq)]
 pub enum DeviationForm {
     // as the pack says
     Plain,
     // Sf=1, over a range that is lent
-    Mapped(ImapbRange),
+    Mapped(Result<RangeMapping, Refusal>),
 }
 
 // A range that is lent has codes.
-pub fn check_deviation_range(range: DeviationRange) -> Check
+pub fn check_deviation_range(range: Option<DeviationRange>) -> Result<(), Refusal>
     ensures { checked result ≡ lent_rule range }
 {
     match range {
-        DeviationRange::Unknown => Check::Passes,
-        DeviationRange::Known { min, max } => check_range(min, max),
+        None => Ok(()),
+        Some(range) => check_range(range.min, range.max),
     }
 }
 
 // What the control and the range decide: the range counts only where Sf=1.
-pub fn deviation_form(range: DeviationRange, control: ParseControl) -> DeviationForm
+pub fn deviation_form(range: Option<DeviationRange>, control: ParseControl) -> DeviationForm
     ensures { form_listed result ≡ form_of range control }
 {
-    let DeviationRange::Known { min, max } = range else {
+    let Some(DeviationRange { min, max }) = range else {
         return DeviationForm::Plain;
     };
     if control.sf {

@@ -7,8 +7,8 @@ ghost use Rattle.deviations.specs.Form.{form_listed, code_deviation, form_number
 
 use crate::form::DeviationForm;
 use answers::Refusal;
-use elements::number::{Number, deviation_at, left, value_bits};
-use imapb::decode::{DecodedImapb, ImapbRead};
+use elements::number::{deviation_at, left, value_bits};
+use imapb::decode::DecodedImapb;
 use layout::control::ParseControl;
 use ranges::decode::decode_worked_out;
 
@@ -27,18 +27,14 @@ fn part_of(bytes: &[u8], at: usize, size: usize) -> &[u8]
 }
 
 // What a code's answer is as a deviation's: whatever is no value is refused with the row.
-fn of_code(read: ImapbRead, row: usize) -> Number
+fn of_code(read: Result<DecodedImapb, Refusal>, row: usize) -> Result<u64, Refusal>
     ensures { number_listed result ≡ code_deviation row (imapb_listed read) }
 {
-    match read {
-        ImapbRead::Refused(refusal) => Number::Refused(refusal),
-        ImapbRead::Done(decoded) => {
-            let DecodedImapb::Value(_) = decoded else {
-                return Number::Refused(Refusal::NoDeviation { row });
-            };
-            Number::Bits(value_bits(decoded))
-        }
-    }
+    let decoded = read?;
+    let DecodedImapb::Value(_) = decoded else {
+        return Err(Refusal::NoDeviation { row });
+    };
+    Ok(value_bits(decoded))
 }
 
 // Rule h) of the deviation of a row, which starts at a place.
@@ -48,7 +44,7 @@ pub fn deviation_in(
     control: ParseControl,
     form: DeviationForm,
     row: usize,
-) -> Number
+) -> Result<u64, Refusal>
     ensures { number_listed result ≡ form_number bytes.now at control (form_listed form) row }
 {
     let DeviationForm::Mapped(range) = form else {
@@ -57,7 +53,7 @@ pub fn deviation_in(
     let slen = control.slen as usize;
     let there = left(bytes, at);
     if there < slen {
-        return Number::Refused(Refusal::TruncatedField {
+        return Err(Refusal::TruncatedField {
             needed: slen,
             got: there,
         });

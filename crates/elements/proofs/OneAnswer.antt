@@ -1,16 +1,13 @@
 -- No second answer meets a contract: two that do are the same.
 -- Assumes nothing.
-use mathlib.Core.Path.{◌≡◌, sym, ap, ◌∙◌}
+use mathlib.Core.Path.{◌≡◌, sym, ◌∙◌}
 use Prim.Native.Nat.{ℕ}
-use native.Mathlib.Omega.{arith}
+use Rattle.std.specs.Prelude.{Result}
 use Rattle.answers.specs.OneAnswer.{OneResult}
-use Rattle.answers.proofs.OneToOne.{listed-one, checked-one}
-use Rattle.elements.specs.declared.head.Opened.{Opened}
-use Rattle.elements.specs.declared.head.Opened.TheVariants as opened
-use Rattle.elements.specs.declared.number.Number.{Number}
-use Rattle.elements.specs.declared.number.Number.TheVariants.{Bits, Refused}
-use Rattle.elements.specs.declared.slot.SlotRead.{SlotRead}
-use Rattle.elements.specs.declared.slot.SlotRead.TheVariants as slot
+use Rattle.answers.proofs.OneToOne.{listed-one, result-one, checked-one}
+use Rattle.layout.specs.declared.rule.Broken.{Broken}
+use Rattle.layout.proofs.Ruled.{broken-one}
+use Rattle.elements.specs.declared.head.Places.{Places}
 use Rattle.elements.specs.Listed.{opened_listed}
 use Rattle.elements.specs.Numbers.{number_listed}
 use Rattle.elements.specs.Slots.{slot_listed}
@@ -28,25 +25,18 @@ use Rattle.elements.proofs.slot.correlation_at.Reads as correlation-at
 use Rattle.elements.proofs.slot.slot_at.Reads as slot_at
 use Rattle.elements.proofs.slot.slot_of.Reads as slot_of
 use Rattle.elements.proofs.slot.state_of.Reads as state-of
+use Rattle.elements.specs.declared.slot.Slot.{Slot}
+use Rattle.answers.specs.declared.Refusal.{Refusal}
 
 -- what determines the listed answer determines the enum
-pub number-one : (a b : Number) → number_listed a ≡ number_listed b → a ≡ b
-number-one (Bits x) (Bits y) e = cc
-number-one (Bits x) (Refused r) e = let z : ◌≡◌ {A = ℕ} 0 1 = cc in absurd (omega arith)
-number-one (Refused r) (Bits y) e = let z : ◌≡◌ {A = ℕ} 0 1 = cc in absurd (omega arith)
-number-one (Refused r) (Refused s) e = ap Refused (listed-one r s (cc))
+pub number-one : (a b : Result ℕ Refusal) → number_listed a ≡ number_listed b → a ≡ b
+number-one = result-one number_listed (λ x y e. cc) (λ r s e. listed-one r s (cc)) (λ x r e. cc)
 
-slot-one : (a b : SlotRead) → slot_listed a ≡ slot_listed b → a ≡ b
-slot-one (slot.Done x) (slot.Done y) e = cc
-slot-one (slot.Done x) (slot.Refused r) e = let z : ◌≡◌ {A = ℕ} 0 1 = cc in absurd (omega arith)
-slot-one (slot.Refused r) (slot.Done y) e = let z : ◌≡◌ {A = ℕ} 0 1 = cc in absurd (omega arith)
-slot-one (slot.Refused r) (slot.Refused s) e = ap slot.Refused (listed-one r s (cc))
+slot-one : (a b : Result Slot Refusal) → slot_listed a ≡ slot_listed b → a ≡ b
+slot-one = result-one slot_listed (λ x y e. cc) (λ r s e. listed-one r s (cc)) (λ x r e. cc)
 
-pub opened_one : (a b : Opened) → opened_listed a ≡ opened_listed b → a ≡ b
-opened_one (opened.Pack p) (opened.Pack q) e = cc
-opened_one (opened.Pack p) (opened.Refused x r) e = let z : ◌≡◌ {A = ℕ} 0 1 = cc in absurd (omega arith)
-opened_one (opened.Refused x r) (opened.Pack q) e = let z : ◌≡◌ {A = ℕ} 0 1 = cc in absurd (omega arith)
-opened_one (opened.Refused x r) (opened.Refused y s) e = let p : r ≡ s = listed-one r s (cc) in cc
+pub opened_one : (a b : Result Places Broken) → opened_listed a ≡ opened_listed b → a ≡ b
+opened_one = result-one opened_listed (λ p q e. cc) (λ x y e. broken-one x y (cc) (cc)) (λ p x e. cc)
 
 pub deviation-count-one : OneResult deviation-count.Learnt
 deviation-count-one κs a r r' s s' p q = p ∙ sym q

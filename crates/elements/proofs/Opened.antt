@@ -5,34 +5,35 @@ use mathlib.Core.List.{List}
 use Prim.Native.Nat.{ℕ, ◌+◌, ◌-◌, ◌≤◌}
 use native.Mathlib.Omega.{arith}
 use lib.ListN.{length}
+use Rattle.std.specs.Prelude.{Err}
 use Rattle.answers.specs.Table.{Answer, short}
 use Rattle.answers.proofs.Next.{next-zero}
 use Rattle.answers.proofs.Rules.{picked}
 use Rattle.layout.specs.declared.control.ParseControl.{ParseControl}
-use Rattle.layout.specs.declared.header.Header.TheVariants.{Open, Unreadable, Short}
+use Rattle.layout.specs.declared.header.HeaderError.TheVariants.{Unreadable, Short}
 use Rattle.layout.specs.declared.rule.Rule.{Rule}
 use Rattle.layout.specs.declared.rule.Rule.TheVariants.{A, B}
 use Rattle.layout.specs.Ruled.{Ruled, passed, refused_by, unnamed}
-use Rattle.layout.specs.Header.{said_size, control_of, body_at, header_of, head_rules}
+use Rattle.layout.specs.Header.{headed, said_size, control_of, body_at, header_of, head_rules}
 use Rattle.layout.specs.Size.{size_rules, fit_rules, fit_ruled}
 use Rattle.layout.specs.Triangle.{slots_of, bit_bytes}
 use Rattle.layout.proofs.Fits.{fits-tells}
 use Rattle.layout.proofs.Peek.{fit-answers, head-tells, opened}
-use Rattle.elements.specs.declared.head.Head.{Head}
+use Rattle.layout.specs.declared.header.Head.{Head}
 use Rattle.elements.specs.declared.head.Places.{Places}
 use Rattle.elements.specs.Elements.{head_of, places_of}
 use Rattle.elements.specs.Held.{Within, Placed}
 use Rattle.elements.specs.Listed.{pack, refused, verdict}
 
 -- ---- a header that was not read
-pub unreadable-refused : (bytes : List ℕ) → Unreadable ≡ header_of bytes → refused A (short 0 0) ≡ verdict bytes (fit_ruled bytes)
+pub unreadable-refused : (bytes : List ℕ) → Err Unreadable ≡ header_of bytes → refused A (short 0 0) ≡ verdict bytes (fit_ruled bytes)
 unreadable-refused bytes e = rw (← e)
 
-pub short-refused : (bytes : List ℕ) → Short ≡ header_of bytes → refused B (short 1 0) ≡ verdict bytes (fit_ruled bytes)
+pub short-refused : (bytes : List ℕ) → Err Short ≡ header_of bytes → refused B (short 1 0) ≡ verdict bytes (fit_ruled bytes)
 short-refused bytes e = rw (← e)
 
 -- ---- a header that was read
-module _ (bytes : List ℕ) {n : ℕ} {k : ParseControl} {b : ℕ} (o : Open n k b ≡ header_of bytes) where
+module _ (bytes : List ℕ) {n : ℕ} {k : ParseControl} {b : ℕ} (o : headed n k b ≡ header_of bytes) where
   abbrev pub head : Head
   head = record { n = n; control = k; body = b }
 

@@ -11,7 +11,7 @@ use Rattle.imapb.specs.declared.decode.DecodedImapb.TheVariants.{Value, Special,
 use Rattle.imapb.specs.Special.{reading}
 use Rattle.layout.specs.declared.control.ParseControl.{ParseControl}
 use Rattle.layout.specs.Control.{is_set}
-use Rattle.elements.specs.declared.head.Head.{Head}
+use Rattle.layout.specs.declared.header.Head.{Head}
 use Rattle.elements.specs.declared.head.Places.{Places}
 use Rattle.elements.specs.declared.slot.Slot.{Slot}
 use Rattle.layout.specs.Triangle.{slots_of, bit_bytes}

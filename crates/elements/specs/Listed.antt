@@ -1,15 +1,14 @@
 -- What opening a pack answers, by the rules.
-use Rattle.std.specs.Prelude.{ℕ, List}
+use Rattle.std.specs.Prelude.{ℕ, List, Err, Ok, Result}
 use Rattle.answers.specs.Listed.{listed}
 use Rattle.answers.specs.Table.{Answer}
 use Rattle.layout.specs.declared.pack.SdccFlp.{SdccFlp}
+use Rattle.layout.specs.declared.rule.Broken.{Broken}
 use Rattle.layout.specs.declared.rule.Rule.{Rule}
 use Rattle.layout.specs.Ruled.{Ruled, passed, refused_by}
 use Rattle.layout.specs.Triangle.{slots_of}
-use Rattle.elements.specs.declared.head.Head.{Head}
+use Rattle.layout.specs.declared.header.Head.{Head}
 use Rattle.elements.specs.declared.head.Places.{Places}
-use Rattle.elements.specs.declared.head.Opened.{Opened}
-use Rattle.elements.specs.declared.head.Opened.TheVariants.{Pack, Refused}
 use Rattle.elements.specs.Elements.{head_of, deviation_count, places_of}
 
 -- what a pack of that head holds: N, the deviation count and M
@@ -21,9 +20,9 @@ pub data Verdict : Type 0 where
   pack : Places → Verdict
   refused : Rule → Answer → Verdict
 
-abbrev pub opened_listed : Opened → Verdict
-opened_listed (Pack p) = pack p
-opened_listed (Refused x r) = refused x (listed r)
+abbrev pub opened_listed : Result Places Broken → Verdict
+opened_listed (Ok p) = pack p
+opened_listed (Err b) = refused b.rule (listed b.refusal)
 
 -- the places of the bytes' elements where the rules pass, and the one that refuses where they do not
 abbrev pub verdict : List ℕ → Ruled → Verdict

@@ -1,17 +1,16 @@
 -- One number of a pack, or the refusal that reading it gives.
-use Rattle.std.specs.Prelude.{ℕ, ◌-◌, List, [], ◌∷◌, ltb, length}
+use Rattle.std.specs.Prelude.{ℕ, ◌-◌, List, [], ◌∷◌, ltb, length, Err, Ok, Result}
 use Rattle.answers.specs.Table.{Answer, answer, short, wholes, pick, passes}
 use Rattle.answers.specs.Listed.{listed}
 use Rattle.answers.specs.Outcome.{Outcome, found, refused, unless}
 use Rattle.layout.specs.declared.control.ParseControl.{ParseControl}
-use Rattle.elements.specs.declared.number.Number.{Number}
-use Rattle.elements.specs.declared.number.Number.TheVariants.{Bits, Refused}
 use Rattle.elements.specs.Elements.{part, is_ieee, ieee}
 use Rattle.elements.specs.Formats.{deviation_format}
+use Rattle.answers.specs.declared.Refusal.{Refusal}
 
-abbrev pub number_listed : Number → Outcome ℕ
-number_listed (Bits b) = found b
-number_listed (Refused r) = refused (listed r)
+abbrev pub number_listed : Result ℕ Refusal → Outcome ℕ
+number_listed (Ok b) = found b
+number_listed (Err r) = refused (listed r)
 
 -- what an answer refuses
 abbrev pub refusal_of : {A : Type 0} → Outcome A → Answer

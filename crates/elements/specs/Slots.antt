@@ -1,5 +1,5 @@
 -- One slot of a pack, or the refusal that reading it gives.
-use Rattle.std.specs.Prelude.{ℕ, Bool, List}
+use Rattle.std.specs.Prelude.{ℕ, Bool, List, Err, Ok, Result}
 use Rattle.answers.specs.Table.{pick}
 use Rattle.answers.specs.Listed.{listed}
 use Rattle.answers.specs.Outcome.{Outcome, found, refused}
@@ -7,15 +7,14 @@ use Rattle.imapb.specs.Tables.{Reading, reads}
 use Rattle.imapb.specs.Tables as imapb
 use Rattle.layout.specs.declared.control.ParseControl.{ParseControl}
 use Rattle.elements.specs.declared.slot.Slot.{Slot}
-use Rattle.elements.specs.declared.slot.SlotRead.{SlotRead}
-use Rattle.elements.specs.declared.slot.SlotRead.TheVariants.{Done, Refused}
 use Rattle.elements.specs.Elements.{part, slot, absent, decoded_slot, code_slot}
 use Rattle.elements.specs.Formats.{code_format}
 use Rattle.elements.specs.Numbers.{element}
+use Rattle.answers.specs.declared.Refusal.{Refusal}
 
-abbrev pub slot_listed : SlotRead → Outcome Slot
-slot_listed (Done s) = found s
-slot_listed (Refused r) = refused (listed r)
+abbrev pub slot_listed : Result Slot Refusal → Outcome Slot
+slot_listed (Ok s) = found s
+slot_listed (Err r) = refused (listed r)
 
 -- what a code reads as, and an IEEE number, as a slot
 abbrev pub mapped_slot : Reading → Outcome Slot

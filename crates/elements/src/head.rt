@@ -6,34 +6,18 @@ ghost use Rattle.elements.specs.Held.{Within};
 ghost use Rattle.elements.specs.Listed.{pack_of, opened_listed, verdict};
 
 use answers::Refusal;
-use layout::control::ParseControl;
-use layout::header::{Header, read_header};
+use layout::header::{Head, HeaderError, read_header};
 use layout::pack::SdccFlp;
-use layout::rule::{Rule, Ruling};
+use layout::rule::{Broken, Rule};
 use layout::size::check_matrix_size_fits;
 use layout::triangle::corr_slots;
 
-// What elements 1 and 2 say, and where element 3 starts.
-#[derive(Clone, Copy)]
-pub struct Head {
-    pub n: u32,
-    pub control: ParseControl,
-    pub body: usize,
-}
-
-// And where elements 4 and 5 start.
-#[derive(Clone, Copy)]
+// What elements 1 and 2 say, and where elements 4 and 5 start.
+#[derive(Clone, Copy, Debug, PartialEq, Eq)]
 pub struct Places {
     pub head: Head,
     pub deviations: usize,
     pub codes: usize,
-}
-
-// The places of a pack that rules have passed, or the first that did not, with its refusal.
-#[derive(Clone, Copy)]
-pub enum Opened {
-    Pack(Places),
-    Refused { rule: Rule, refusal: Refusal },
 }
 
 // N deviations, or none for Slen=0.
@@ -82,24 +66,21 @@ fn places_of(bytes: &[u8], head: Head) -> Places
 }
 
 // Rules a) to g), and where the elements of what passes them start.
-pub fn open_pack(bytes: &[u8]) -> Opened
+pub fn open_pack(bytes: &[u8]) -> Result<Places, Broken>
     ensures { opened_listed result ≡ verdict bytes.now (fit_ruled bytes.now) }
 {
     match read_header(bytes) {
-        Header::Unreadable => Opened::Refused {
+        Err(HeaderError::Unreadable) => Err(Broken {
             rule: Rule::A,
             refusal: Refusal::TruncatedField { needed: 0, got: 0 },
-        },
-        Header::Short => Opened::Refused {
+        }),
+        Err(HeaderError::Short) => Err(Broken {
             rule: Rule::B,
             refusal: Refusal::TruncatedField { needed: 1, got: 0 },
-        },
-        Header::Open { n, control, body } => {
-            let fits = check_matrix_size_fits(n, bytes.len() - body, control);
-            if let Ruling::Refused { rule, refusal } = fits {
-                return Opened::Refused { rule, refusal };
-            }
-            Opened::Pack(places_of(bytes, Head { n, control, body }))
+        }),
+        Ok(head) => {
+            check_matrix_size_fits(head.n, bytes.len() - head.body, head.control)?;
+            Ok(places_of(bytes, head))
         }
     }
 }

@@ -4,26 +4,17 @@ ghost use Rattle.answers.specs.Listed.{checked};
 ghost use Rattle.elements.specs.Elements.{value_bits};
 ghost use Rattle.elements.specs.Numbers.{number_listed, refusal_of, ieee_number, deviation_number};
 
-use answers::{Check, Refusal};
+use answers::Refusal;
 use imapb::decode::DecodedImapb;
 use layout::control::ParseControl;
-use numbers::conversions::binary32_to_binary64;
+use numbers::conversions::{binary32_to_binary64, bits_of};
 use numbers::words::read_be;
 
-#[derive(Clone, Copy)]
-pub enum Number {
-    Bits(u64),
-    Refused(Refusal),
-}
-
 // What a number's answer is as a rule's: it passes, or is refused.
-pub fn check_number(number: Number) -> Check
+pub fn check_number(number: Result<u64, Refusal>) -> Result<(), Refusal>
     ensures { checked result ≡ refusal_of (number_listed number) }
 {
-    match number {
-        Number::Bits(_) => Check::Passes,
-        Number::Refused(refusal) => Check::Refused(refusal),
-    }
+    number.map(|_| ())
 }
 
 // How many bytes there are from a place on.
@@ -38,32 +29,32 @@ pub fn left(bytes: &[u8], at: usize) -> usize
 }
 
 // An IEEE number: binary32 for 4 bytes, binary64 for 8.
-pub(crate) fn ieee_at(bytes: &[u8], at: usize, size: usize) -> Number
+pub(crate) fn ieee_at(bytes: &[u8], at: usize, size: usize) -> Result<u64, Refusal>
     ensures { number_listed result ≡ ieee_number bytes.now at size }
 {
     let there = left(bytes, at);
     if there < size {
-        return Number::Refused(Refusal::TruncatedField {
+        return Err(Refusal::TruncatedField {
             needed: size,
             got: there,
         });
     }
     if size == 4 {
         let end = at + 4;
-        return Number::Bits(binary32_to_binary64(read_be(&bytes[at..end]) as u32));
+        return Ok(binary32_to_binary64(read_be(&bytes[at..end]) as u32));
     }
     if size == 8 {
         let end = at + 8;
-        return Number::Bits(read_be(&bytes[at..end]));
+        return Ok(read_be(&bytes[at..end]));
     }
-    Number::Refused(Refusal::InvalidLength {
+    Err(Refusal::InvalidLength {
         expected: 0,
         got: size,
     })
 }
 
 // Rule h) of one deviation.
-pub fn deviation_at(bytes: &[u8], at: usize, control: ParseControl) -> Number
+pub fn deviation_at(bytes: &[u8], at: usize, control: ParseControl) -> Result<u64, Refusal>
     ensures { number_listed result ≡ deviation_number bytes.now at control }
 {
     let slen = control.slen as usize;
@@ -71,12 +62,12 @@ pub fn deviation_at(bytes: &[u8], at: usize, control: ParseControl) -> Number
     if control.sf {
         let there = left(bytes, at);
         if there < slen {
-            return Number::Refused(Refusal::TruncatedField {
+            return Err(Refusal::TruncatedField {
                 needed: slen,
                 got: there,
             });
         }
-        return Number::Refused(Refusal::InvalidLength {
+        return Err(Refusal::InvalidLength {
             expected: 0,
             got: slen,
         });
@@ -91,10 +82,5 @@ pub fn value_bits(decoded: DecodedImapb) -> u64
     let DecodedImapb::Value(x) = decoded else {
         return 0;
     };
-    // a NaN has no bits of its own
-    if x != x {
-        0x7ff8_0000_0000_0000
-    } else {
-        f64::to_bits(x)
-    }
+    bits_of(x)
 }

@@ -5,8 +5,8 @@ ghost use Rattle.layout.specs.Size.{max_slots};
 ghost use Rattle.layout.specs.Triangle.{slots_of};
 ghost use Rattle.elements.specs.Elements.{ones_before, present_in, present_before};
 
-use crate::head::Head;
 use layout::control::ParseControl;
+use layout::header::Head;
 use layout::pack::bounded_slots;
 use layout::triangle::corr_slots;
 
@@ -52,10 +52,8 @@ fn ones(bytes: &[u8], at: usize, slots: usize) -> usize
 {
     let whole = slots / 8;
     let mut count: usize = 0;
-    let mut i: usize = 0;
-    while i < whole {
+    for i in 0..whole {
         count += set_bits(byte_at(bytes, at, i), 8);
-        i += 1;
     }
     count + set_bits(byte_at(bytes, at, whole), slots % 8)
 }

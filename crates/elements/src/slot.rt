@@ -6,35 +6,27 @@ ghost use Rattle.elements.specs.Elements.{state_of, decoded_slot};
 ghost use Rattle.elements.specs.Numbers.{number_listed, refusal_of};
 ghost use Rattle.elements.specs.Slots.{slot_listed, mapped_slot, ieee_slot, present_read, slot_read};
 
-use crate::number::{Number, ieee_at, left, value_bits};
-use answers::{Check, Refusal};
-use imapb::decode::{DecodedImapb, ImapbRead, decode_imapb};
+use crate::number::{ieee_at, left, value_bits};
+use answers::Refusal;
+use imapb::decode::{DecodedImapb, decode_imapb};
 use layout::control::ParseControl;
 
 // A slot as it is read: the bits of its number, and its state, 0 for absent.
-#[derive(Clone, Copy)]
+#[derive(Clone, Copy, Debug, PartialEq, Eq)]
 pub struct Slot {
     pub bits: u64,
     pub state: u8,
 }
 
-#[derive(Clone, Copy)]
-pub enum SlotRead {
-    Done(Slot),
-    Refused(Refusal),
-}
-
 // What a slot's answer is as a rule's: it passes, or is refused.
-pub fn check_slot(read: SlotRead) -> Check
+pub fn check_slot(read: Result<Slot, Refusal>) -> Result<(), Refusal>
     ensures { checked result ≡ refusal_of (slot_listed read) }
 {
-    match read {
-        SlotRead::Done(_) => Check::Passes,
-        SlotRead::Refused(refusal) => Check::Refused(refusal),
-    }
+    read.map(|_| ())
 }
 
-// What a code was: 1 a value, 2 a special, 3 a reserved pattern, 4 out of range.
+// What a code was: 1 a value, 2 a special, 3 a reserved pattern, 4 out of range. A number and no enum, since states are
+// lent as bytes and printed as numbers.
 pub fn state_of(decoded: DecodedImapb) -> u8
     ensures { result ≡ state_of decoded }
 {
@@ -57,27 +49,22 @@ pub fn slot_of(decoded: DecodedImapb) -> Slot
 }
 
 // What a code's answer is as a slot's.
-fn mapped_slot(read: ImapbRead) -> SlotRead
+fn mapped_slot(read: Result<DecodedImapb, Refusal>) -> Result<Slot, Refusal>
     ensures { slot_listed result ≡ mapped_slot (imapb_listed read) }
 {
-    match read {
-        ImapbRead::Done(decoded) => SlotRead::Done(slot_of(decoded)),
-        ImapbRead::Refused(refusal) => SlotRead::Refused(refusal),
-    }
+    Ok(slot_of(read?))
 }
 
 // And an IEEE number's: whatever it is, it is a value.
-fn ieee_slot(number: Number) -> SlotRead
+fn ieee_slot(number: Result<u64, Refusal>) -> Result<Slot, Refusal>
     ensures { slot_listed result ≡ ieee_slot (number_listed number) }
 {
-    match number {
-        Number::Bits(bits) => SlotRead::Done(Slot { bits, state: 1 }),
-        Number::Refused(refusal) => SlotRead::Refused(refusal),
-    }
+    let bits = number?;
+    Ok(Slot { bits, state: 1 })
 }
 
 // Rule j) of one present slot.
-pub fn correlation_at(bytes: &[u8], at: usize, control: ParseControl) -> SlotRead
+pub fn correlation_at(bytes: &[u8], at: usize, control: ParseControl) -> Result<Slot, Refusal>
     ensures { slot_listed result ≡ present_read bytes.now at control }
 {
     let clen = control.clen as usize;
@@ -86,26 +73,31 @@ pub fn correlation_at(bytes: &[u8], at: usize, control: ParseControl) -> SlotRea
     }
     let there = left(bytes, at);
     if there < clen {
-        return SlotRead::Refused(Refusal::TruncatedField {
+        return Err(Refusal::TruncatedField {
             needed: clen,
             got: there,
         });
     }
     // with no byte to read, `at` may lie past the end
     if clen < 1 {
-        return SlotRead::Refused(Refusal::UnsupportedImapbLength { length: clen });
+        return Err(Refusal::UnsupportedImapbLength { length: clen });
     }
     let end = at + clen;
     mapped_slot(decode_imapb(clen, &bytes[at..end]))
 }
 
 // A slot: 0.0 where it is absent.
-pub fn slot_at(bytes: &[u8], at: usize, control: ParseControl, present: bool) -> SlotRead
+pub fn slot_at(
+    bytes: &[u8],
+    at: usize,
+    control: ParseControl,
+    present: bool,
+) -> Result<Slot, Refusal>
     ensures { slot_listed result ≡ slot_read bytes.now at control present }
 {
     if present {
         correlation_at(bytes, at, control)
     } else {
-        SlotRead::Done(Slot { bits: 0, state: 0 })
+        Ok(Slot { bits: 0, state: 0 })
     }
 }

@@ -7,6 +7,7 @@ use native.Mathlib.Omega.{arith}
 use borrow.Author.Tests.{ltb-false}
 use lib.Dec.{ltb}
 use lib.ListN.{length}
+use Rattle.std.specs.Prelude.{None}
 use Rattle.answers.specs.Table.{answer, wholes, passes}
 use Rattle.answers.proofs.Rules.{picked}
 use Rattle.layout.specs.declared.rule.Rule.{Rule}
@@ -15,11 +16,10 @@ use Rattle.layout.specs.Header.{head_rules}
 use Rattle.layout.specs.Ruled.{passed}
 use Rattle.layout.specs.Size.{fit_ruled}
 use Rattle.layout.specs.Triangle.{slots_of}
-use Rattle.elements.specs.declared.head.Head.{Head}
+use Rattle.layout.specs.declared.header.Head.{Head}
 use Rattle.elements.specs.Elements.{head_of, deviations_at, deviation_count, codes_at, end_at}
 use Rattle.elements.specs.Held.{Within, SlotsHeld}
 use Rattle.elements.proofs.Opened.{fit-within, passed-fits}
-use Rattle.deviations.specs.declared.form.DeviationRange.TheVariants.{Unknown}
 use Rattle.deviations.specs.Range.{format_over, row_part}
 use Rattle.rules.specs.Named.{rank, rule_of, pack_ruled}
 use Rattle.rules.proofs.Held.{turns-held, count-bytes, held}
@@ -44,7 +44,7 @@ module _ (bytes : List ℕ) where
     codes-start e =
         let h = head_of bytes in
         let t =
-        turns-held bytes (deviations_at h) h.control.slen (λ i. format_over Unknown h.control i (row_part bytes (deviations_at h) h.control i)) (deviation_count h) placed.vector e in
+        turns-held bytes (deviations_at h) h.control.slen (λ i. format_over None h.control i (row_part bytes (deviations_at h) h.control i)) (deviation_count h) placed.vector e in
         omega (arith, t.0, count-bytes h)
 
   -- all of them: the codes are there, and reach to the end
@@ -55,7 +55,7 @@ module _ (bytes : List ℕ) where
     pub slots-held : SlotsHeld bytes h.body (codes_at h) h.control (slots_of h.n)
     slots-held =
         let z = none-refuses bytes e in
-        (held Unknown bytes h refl (placed (λ y _. z y)) (rw (z H, z I, z J, z K))).slots
+        (held None bytes h refl (placed (λ y _. z y)) (rw (z H, z I, z J, z K))).slots
 
     pub ends : length bytes ≡ end_at bytes h
     ends =

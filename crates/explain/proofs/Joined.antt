@@ -14,7 +14,7 @@ use Rattle.answers.proofs.Lent.{get_or-tab}
 use Rattle.answers.proofs.Rules.{by_bool}
 use Rattle.layout.specs.Ruled.{passed}
 use Rattle.layout.specs.Triangle.{slots_of}
-use Rattle.elements.specs.declared.head.Head.{Head}
+use Rattle.layout.specs.declared.header.Head.{Head}
 use Rattle.elements.specs.declared.slot.Slot.{Slot}
 use Rattle.elements.specs.Elements.{head_of, part, codes_at, present_in, present_before, slot, code_slot, slot_in, correlations, states}
 use Rattle.elements.specs.Formats.{code_format}

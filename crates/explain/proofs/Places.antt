@@ -16,7 +16,7 @@ use Rattle.layout.specs.declared.rule.Rule.TheVariants.{A, B, C, D, E, F, G, H, 
 use Rattle.layout.specs.Header.{control_at, body_at, head_rules}
 use Rattle.layout.specs.Ruled.{passed, refused_by}
 use Rattle.layout.specs.Size.{fit_ruled}
-use Rattle.elements.specs.declared.head.Head.{Head}
+use Rattle.layout.specs.declared.header.Head.{Head}
 use Rattle.elements.specs.Elements.{head_of, deviations_at, deviation_count, codes_at, present_count, end_at}
 use Rattle.elements.specs.Formats.{deviation_format, code_format}
 use Rattle.rules.specs.Named.{rank, rule_of, pack_ruled}

@@ -12,19 +12,19 @@ use Rattle.answers.specs.Table.{Answer, short}
 use Rattle.answers.specs.Outcome.{Outcome, found, unless}
 use Rattle.answers.proofs.Rules.{picked}
 use Rattle.layout.specs.declared.control.ParseControl.{ParseControl}
-use Rattle.elements.specs.declared.head.Head.{Head}
+use Rattle.layout.specs.declared.header.Head.{Head}
 use Rattle.elements.specs.declared.slot.Slot.{Slot}
 use Rattle.elements.specs.Elements.{part, present_in, code_slot}
 use Rattle.elements.specs.Formats.{code_format}
 use Rattle.elements.specs.Slots.{present_read}
-use Rattle.explain.specs.declared.slot.SlotCode.TheVariants.{Absent}
+use Rattle.std.specs.Prelude.{None}
 use Rattle.explain.specs.Slots.{code_told, slot_from}
 
 module _ (bytes : List ℕ) (h : Head) (k at : ℕ) where
   abbrev there : Bool
   there = present_in bytes h.body h.control k
 
-  pub absent : there ≡ false → Absent ≡ slot_from bytes h k at
+  pub absent : there ≡ false → None ≡ slot_from bytes h k at
   absent f = rw f
 
   pub present : there ≡ true → {r : Outcome Slot} → r ≡ present_read bytes at h.control

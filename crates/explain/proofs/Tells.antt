@@ -7,7 +7,7 @@ use native.Mathlib.Omega.{arith}
 use Rattle.answers.specs.Table.{Answer}
 use Rattle.layout.specs.declared.rule.Rule.{Rule}
 use Rattle.layout.specs.Ruled.{Ruled, passed, refused_by}
-use Rattle.elements.specs.declared.head.Head.{Head}
+use Rattle.layout.specs.declared.header.Head.{Head}
 use Rattle.elements.specs.Elements.{head_of}
 use Rattle.rules.specs.Named.{pack_ruled}
 use Rattle.explain.specs.declared.spans.Elements.{Elements}

@@ -1,18 +1,18 @@
 -- Document 02, K4: what is told of a pack. The rule that refuses it, its place and its answer; or its elements.
-use Rattle.std.specs.Prelude.{ℕ, zero, suc, ◌+◌, ◌*◌, List, eqb}
+use Rattle.std.specs.Prelude.{ℕ, zero, suc, ◌+◌, ◌*◌, List, eqb, Err, Ok, Result}
 use Rattle.answers.specs.Table.{Answer, pick}
 use Rattle.answers.specs.Listed.{listed}
 use Rattle.layout.specs.declared.rule.Rule.{Rule}
 use Rattle.layout.specs.declared.rule.Rule.TheVariants.{A, B, C, D, E, F, G, H, I, J, K}
 use Rattle.layout.specs.Ruled.{Ruled, passed, refused_by}
 use Rattle.layout.specs.Header.{control_at, body_at}
-use Rattle.elements.specs.declared.head.Head.{Head}
+use Rattle.layout.specs.declared.header.Head.{Head}
 use Rattle.elements.specs.Elements.{head_of, deviations_at, deviation_count, codes_at, present_count, end_at}
 use Rattle.elements.specs.Formats.{deviation_format, code_format}
 use Rattle.rules.specs.Named.{pack_ruled}
 use Rattle.rules.specs.Rules.{in_turn}
-use Rattle.explain.specs.declared.explain.Explained.{Explained}
-use Rattle.explain.specs.declared.explain.Explained.TheVariants.{Accepted, Refused}
+use Rattle.explain.specs.declared.explain.Accepted.{Accepted}
+use Rattle.explain.specs.declared.explain.Rejected.{Rejected}
 use Rattle.explain.specs.declared.spans.Elements.{Elements}
 use Rattle.explain.specs.Spans.{elements_of}
 
@@ -47,9 +47,9 @@ pub data Explanation : Type 0 where
   accepted : Head → Elements → Explanation
   refused : Rule → ℕ → Answer → Explanation
 
-abbrev pub explained_listed : Explained → Explanation
-explained_listed (Accepted h e) = accepted h e
-explained_listed (Refused x place r) = refused x place (listed r)
+abbrev pub explained_listed : Result Accepted Rejected → Explanation
+explained_listed (Ok a) = accepted a.head a.elements
+explained_listed (Err r) = refused r.rule r.place (listed r.refusal)
 
 -- by the first rule that refuses
 abbrev pub explained_by : List ℕ → Ruled → Explanation

@@ -1,14 +1,13 @@
 -- The places of a pack that is accepted: they join up, and each slot's are what the reader decodes.
-use Rattle.std.specs.Prelude.{ℕ, zero, suc, ◌-◌, ◌≤◌, ◌<◌, ◌≡◌, List, [], ◌∷◌, ◌++◌, length, get_or}
+use Rattle.std.specs.Prelude.{ℕ, zero, suc, ◌-◌, ◌≤◌, ◌<◌, ◌≡◌, List, [], ◌∷◌, ◌++◌, length, get_or, None, Option, Some}
 use Rattle.layout.specs.declared.control.ParseControl.{ParseControl}
 use Rattle.layout.specs.Triangle.{slots_of}
-use Rattle.elements.specs.declared.head.Head.{Head}
+use Rattle.layout.specs.declared.header.Head.{Head}
 use Rattle.elements.specs.declared.slot.Slot.{Slot}
 use Rattle.elements.specs.Elements.{head_of, part, slot, absent, code_slot, correlations, states}
 use Rattle.explain.specs.declared.spans.Span.{Span}
 use Rattle.explain.specs.declared.spans.Elements.{Elements}
 use Rattle.explain.specs.declared.slot.SlotCode.{SlotCode}
-use Rattle.explain.specs.declared.slot.SlotCode.TheVariants.{Absent, At}
 use Rattle.explain.specs.Spans.{elements_of}
 use Rattle.explain.specs.Slots.{slot_from, code_at, slot_code, behind}
 
@@ -18,22 +17,22 @@ JoinUp from [] to = from ≡ to
 JoinUp from (s ∷ ss) to = (s.start ≡ from) × (s.start ≤ s.end) × JoinUp s.end ss to
 
 -- the bytes of a slot, where it has some, and of the first k slots
-abbrev pub spans_of : SlotCode → List Span
-spans_of Absent = []
-spans_of (At s x) = s ∷ []
+abbrev pub spans_of : Option SlotCode → List Span
+spans_of None = []
+spans_of (Some code) = code.span ∷ []
 
 abbrev pub code_spans : List ℕ → Head → ℕ → List Span
 code_spans bytes h zero = []
 code_spans bytes h (suc k) = code_spans bytes h k ++ spans_of (slot_code bytes h k)
 
 -- the slot that a slot's bytes are, and the state that is told of it
-abbrev pub slot_for : List ℕ → ParseControl → SlotCode → Slot
-slot_for bytes c Absent = absent
-slot_for bytes c (At s x) = code_slot c (part bytes s.start (s.end - s.start))
+abbrev pub slot_for : List ℕ → ParseControl → Option SlotCode → Slot
+slot_for bytes c None = absent
+slot_for bytes c (Some code) = code_slot c (part bytes code.span.start (code.span.end - code.span.start))
 
-abbrev pub state_told : SlotCode → ℕ
-state_told Absent = 0
-state_told (At s x) = x
+abbrev pub state_told : Option SlotCode → ℕ
+state_told None = 0
+state_told (Some code) = code.state
 
 module _ (bytes : List ℕ) where
   abbrev h : Head

@@ -5,38 +5,38 @@ ghost use Rattle.explain.specs.Explained.{explained_listed, explained};
 use crate::place::place_of;
 use crate::spans::{Elements, elements_of};
 use answers::Refusal;
-use elements::head::{Head, Opened};
+use layout::header::Head;
 use layout::rule::Rule;
 use rules::judge::judge;
 
-// Where the elements of a pack that the reader accepts stand; or the rule that refuses it, its place and the refusal.
-#[derive(Clone, Copy)]
-pub enum Explained {
-    Accepted {
-        head: Head,
-        elements: Elements,
-    },
-    Refused {
-        rule: Rule,
-        place: usize,
-        refusal: Refusal,
-    },
+// Where the elements of a pack that the reader accepts stand.
+#[derive(Clone, Copy, Debug, PartialEq, Eq)]
+pub struct Accepted {
+    pub head: Head,
+    pub elements: Elements,
+}
+
+// The rule that refuses a pack, its place and the refusal.
+#[derive(Clone, Copy, Debug, PartialEq, Eq)]
+pub struct Rejected {
+    pub rule: Rule,
+    pub place: usize,
+    pub refusal: Refusal,
 }
 
 // Of every byte string, as the reader takes it that is lent no range.
-pub fn explain(bytes: &[u8]) -> Explained
+pub fn explain(bytes: &[u8]) -> Result<Accepted, Rejected>
     ensures { explained_listed result ≡ explained bytes.now }
 {
     match judge(bytes) {
-        Opened::Refused { rule, refusal } => Explained::Refused {
-            rule,
-            place: place_of(bytes, rule, refusal),
-            refusal,
-        },
-        Opened::Pack(places) => {
-            let head = places.head;
-            let elements = elements_of(bytes, places);
-            Explained::Accepted { head, elements }
-        }
+        Ok(places) => Ok(Accepted {
+            head: places.head,
+            elements: elements_of(bytes, places),
+        }),
+        Err(broken) => Err(Rejected {
+            rule: broken.rule,
+            place: place_of(bytes, broken.rule, broken.refusal),
+            refusal: broken.refusal,
+        }),
     }
 }

@@ -12,9 +12,9 @@ ghost use Rattle.explain.specs.Found.{stopped_at};
 use crate::spans::control_at;
 use answers::Refusal;
 use answers::row::row_of;
-use elements::head::{Opened, Places, open_pack};
+use elements::head::{Places, open_pack};
 use elements::number::left;
-use layout::header::{Header, read_header};
+use layout::header::read_header;
 use layout::rule::Rule;
 
 // The start of the first value that is refused, of those from a place on: one that is short reaches to the end.
@@ -58,17 +58,7 @@ fn body_at(bytes: &[u8]) -> usize
     requires { (head_rules bytes.now).number ≡ 0 }
     ensures { result ≡ body_at bytes.now }
 {
-    let header = read_header(bytes);
-    // never: the control has been read
-    let Header::Open {
-        n: _,
-        control: _,
-        body,
-    } = header
-    else {
-        return 0;
-    };
-    body
+    read_header(bytes).unwrap().body
 }
 
 pub(crate) fn place_of(bytes: &[u8], rule: Rule, refusal: Refusal) -> usize
@@ -82,7 +72,7 @@ pub(crate) fn place_of(bytes: &[u8], rule: Rule, refusal: Refusal) -> usize
         _ => {
             let opened = open_pack(bytes);
             // never: a) to g) pass
-            let Opened::Pack(places) = opened else {
+            let Ok(places) = opened else {
                 return 0;
             };
             place_behind(bytes, places, rule, refusal)

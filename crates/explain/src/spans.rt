@@ -8,17 +8,17 @@ ghost use Rattle.explain.specs.Found.{Sized};
 ghost use Rattle.explain.specs.Spans.{elements_of};
 
 use elements::head::Places;
-use numbers::ber_oid::{BerOid, read_ber_oid};
+use numbers::ber_oid::read_ber_oid;
 
 // From a byte on, up to another.
-#[derive(Clone, Copy)]
+#[derive(Clone, Copy, Debug, PartialEq, Eq)]
 pub struct Span {
     pub start: usize,
     pub end: usize,
 }
 
 // The five elements, one behind the other.
-#[derive(Clone, Copy)]
+#[derive(Clone, Copy, Debug, PartialEq, Eq)]
 pub struct Elements {
     pub n: Span,
     pub control: Span,
@@ -32,12 +32,7 @@ pub(crate) fn control_at(bytes: &[u8]) -> usize
     requires { Sized bytes.now }
     ensures { result ≡ control_at bytes.now }
 {
-    let oid = read_ber_oid(bytes);
-    // never: N has been read
-    let BerOid::Read { value: _, taken } = oid else {
-        return 0;
-    };
-    taken
+    read_ber_oid(bytes).unwrap().taken
 }
 
 // Those of a pack that passes all rules, so that nothing stands behind its codes.

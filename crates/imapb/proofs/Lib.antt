@@ -1,6 +1,7 @@
 pub mod Flags
 pub mod Table
 pub mod Length
+pub mod Maps
 pub mod Range
 pub mod Rounded
 pub mod Units

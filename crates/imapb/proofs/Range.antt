@@ -15,11 +15,10 @@ use lib.Ieee.{Float, nan, inf, fin, binary64, up, down, of_fields, of_bits, to_b
 use lib.Ieee.Exact.{HasValue}
 use lib.Ieee.Fits.{down_pos}
 use lib.Ieee.Order.{transfer}
+use Rattle.std.specs.Prelude.{Ok, Err, Result, ⊤}
 use Rattle.numbers.proofs.Patterns.{subnormal-value, normal-value}
 use Rattle.answers.specs.Table.{Answer, answer, bits64, pick, passes}
 use Rattle.answers.specs.Listed.{listed, checked}
-use Rattle.answers.specs.declared.Check.{Check}
-use Rattle.answers.specs.declared.Check.TheVariants.{Passes, Refused}
 use Rattle.answers.specs.declared.Refusal.{Refusal}
 use Rattle.answers.proofs.OneToOne.{done-not-refused}
 use Rattle.imapb.specs.Mapping.{one, minus_one, in_range}
@@ -132,11 +131,11 @@ range-told v e = go (in_range (of_bits binary64 v)) e
     go true e = refl
     go false e = absurd (omega arith)
 
-module _ (v : ℕ) {k : Check} (e : checked k ≡ range_rule v) where
-  pub range-passed : k ≡ Passes → in_range (of_bits binary64 v) ≡ true
+module _ (v : ℕ) {k : Result ⊤ Refusal} (e : checked k ≡ range_rule v) where
+  pub range-passed : k ≡ (Ok tt) → in_range (of_bits binary64 v) ≡ true
   range-passed h = range-told v (ap (λ (a : Answer). a.number) (sym e ∙ ap checked h))
 
-  pub range-refused : {r : Refusal} → k ≡ Refused r → in_range (of_bits binary64 v) ≡ false
+  pub range-refused : {r : Refusal} → k ≡ Err r → in_range (of_bits binary64 v) ≡ false
   range-refused {r} h = go (in_range (of_bits binary64 v)) (rw h at e)
     where
       go : (b : Bool) → listed r ≡ pick (not b) (outside v) passes → b ≡ false

@@ -1,30 +1,30 @@
 -- Document 01, "Mapped values alone": the answers, in its order.
-use Rattle.std.specs.Prelude.{ℕ, ◌-◌, ◌*◌, ◌^◌, Bool, not, ◌&&◌, List, [], ◌∷◌, leb, ltb, eqb, length}
+use Rattle.std.specs.Prelude.{ℕ, ◌-◌, ◌*◌, ◌^◌, ◌≤◌, Bool, true, false, not, ◌&&◌, T, List, [], ◌∷◌, leb, ltb, eqb, length, Err, None, Ok, Some, Result, Option}
+use Rattle.std.proofs.Common.{refl, leb→le}
+use lib.Ieee.Fits.{and_l, and_r}
 use Rattle.std.specs.Float.{binary64}
 use Rattle.std.specs.Float.Ieee.{of_bits, to_bits}
 use Rattle.answers.specs.Table.{Answer, answer, bits64, wholes, pick, passes, next}
 use Rattle.answers.specs.Listed.{listed}
+use Rattle.answers.specs.Outcome.{Outcome, found, unless}
+use Rattle.answers.specs.Outcome as outcome
 use Rattle.numbers.specs.Words.{word_of}
 use Rattle.imapb.specs.declared.special.ImapbSpecial.{ImapbSpecial}
 use Rattle.imapb.specs.declared.decode.DecodedImapb.{DecodedImapb}
-use Rattle.imapb.specs.declared.decode.ImapbRead.{ImapbRead}
-use Rattle.imapb.specs.declared.decode.ImapbRead.TheVariants.{Done, Refused}
-use Rattle.imapb.specs.declared.encode.ImapbCode.{ImapbCode}
-use Rattle.imapb.specs.declared.encode.ImapbCode.TheVariants as imapb
-use Rattle.imapb.specs.declared.mapping.Mapping.{Mapping}
-use Rattle.imapb.specs.declared.mapping.ImapbMapping.{ImapbMapping}
-use Rattle.imapb.specs.declared.mapping.ImapbMapping.TheVariants as mapping
+use Rattle.imapb.specs.declared.code_length.CodeLength.{CodeLength}
+use Rattle.imapb.specs.declared.code_length.Mapping.{Mapping}
 use Rattle.imapb.specs.Mapping.{one, minus_one, scale_of, top_of, code_of, in_range}
 use Rattle.imapb.specs.Special.{payload, reading}
+use Rattle.answers.specs.declared.Refusal.{Refusal}
 
 -- done carries what the code reads as
 pub data Reading : Type 0 where
   reads : DecodedImapb → Reading
   refused : Answer → Reading
 
-abbrev pub imapb_listed : ImapbRead → Reading
-imapb_listed (Done d) = reads d
-imapb_listed (Refused r) = refused (listed r)
+abbrev pub imapb_listed : Result DecodedImapb Refusal → Reading
+imapb_listed (Ok d) = reads d
+imapb_listed (Err r) = refused (listed r)
 
 -- length 1 to 8
 abbrev pub supported : ℕ → Bool
@@ -33,6 +33,14 @@ supported L = leb 1 L && leb L 8
 -- any other: 4 with it
 abbrev pub length_rule : ℕ → Answer
 length_rule L = pick (supported L) passes (answer 4 (wholes (L ∷ [])))
+
+-- a length that has codes
+abbrev pub length_listed : Result CodeLength Refusal → Outcome ℕ
+length_listed (Ok l) = found l.bytes
+length_listed (Err r) = outcome.refused (listed r)
+
+abbrev pub code_length : ℕ → Outcome ℕ
+code_length L = unless (length_rule L) L
 
 -- a slice of another length: 2 with the length and the slice's
 abbrev pub slice_rule : ℕ → List ℕ → Answer
@@ -56,16 +64,23 @@ range_rule v =
     passes
 
 -- the code alone, where there is one
-abbrev pub imapb_code : ℕ → ℕ → ImapbCode
+abbrev pub imapb_code : ℕ → ℕ → Option ℕ
 imapb_code L v =
-    pick (supported L && in_range (of_bits binary64 v)) (imapb.Of (code_of L (of_bits binary64 v))) imapb.Nothing
+    pick (supported L && in_range (of_bits binary64 v)) (Some (code_of L (of_bits binary64 v))) None
 
 -- what the length decides, where it has codes
-abbrev pub mapping_of : ℕ → Mapping
-mapping_of L = record { length = L; scale = scale_of L; top = top_of L }
+abbrev pub mapping_of : (L : ℕ) → 1 ≤ L → L ≤ 8 → Mapping
+mapping_of L least most =
+    record { length = L; scale = scale_of L; top = top_of L; least = least; most = most; scale_is = refl; top_is = refl }
 
-abbrev pub imapb_mapping : ℕ → ImapbMapping
-imapb_mapping L = pick (supported L) (mapping.Of (mapping_of L)) mapping.Nothing
+-- a mapping where a test holds
+abbrev pub mapping_if : (b : Bool) → (T b → Mapping) → Option Mapping
+mapping_if true m = Some (m tt)
+mapping_if false m = None
+
+abbrev pub imapb_mapping : ℕ → Option Mapping
+imapb_mapping L =
+    mapping_if (supported L) (λ s. mapping_of L (leb→le 1 L (and_l (leb 1 L) (leb L 8) s)) (leb→le L 8 (and_r (leb 1 L) (leb L 8) s)))
 
 abbrev pub imapb_written : ℕ → ℕ → ℕ → Answer
 imapb_written L v room =

@@ -1,18 +1,20 @@
 //! What a code of mapped form reads as.
-ghost use Rattle.std.specs.Prelude.{◌≡◌, ◌-◌, ◌*◌, ◌/◌, ◌%◌, ◌^◌, ◌≤◌, ◌<◌};
+ghost use Rattle.std.specs.Prelude.{◌≡◌, ◌-◌, ◌*◌, ◌/◌, ◌%◌, ◌^◌, ◌<◌};
 ghost use Rattle.answers.specs.Table.{pick};
 ghost use Rattle.answers.specs.Listed.{checked};
+ghost use Rattle.answers.specs.Outcome.{unless};
 ghost use Rattle.numbers.specs.Words.{word_of};
-ghost use Rattle.imapb.specs.Mapping.{top_of, value_of};
+ghost use Rattle.imapb.specs.Mapping.{value_of};
 ghost use Rattle.imapb.specs.Special.{overflow_reading, special_reading, unless_special, reading};
-ghost use Rattle.imapb.specs.Tables.{imapb_listed, supported, length_rule, code_rules, imapb_read};
+ghost use Rattle.imapb.specs.Tables.{imapb_listed, length_listed, supported, length_rule, code_rules, imapb_read};
 
+use crate::code_length::{CodeLength, Mapping};
 use crate::special::ImapbSpecial;
-use answers::{Check, Refusal};
+use answers::Refusal;
 
 // Under the Rust's names: a value, a special, a pattern that the tables reserve with its y, or a number above the
 // range.
-#[derive(Clone, Copy)]
+#[derive(Clone, Copy, Debug, PartialEq)]
 pub enum DecodedImapb {
     Value(f64),
     Special(ImapbSpecial),
@@ -20,24 +22,16 @@ pub enum DecodedImapb {
     OutOfRange { decoded: f64 },
 }
 
-#[derive(Clone, Copy)]
-pub enum ImapbRead {
-    Done(DecodedImapb),
-    Refused(Refusal),
-}
-
 // y as the nearest binary64, scaled exactly, less 1.
-fn value_of(length: usize, y: u64) -> f64
-    requires { (1 ≤ length) × (length ≤ 8) }
-    ensures { result ≡ value_of length y }
+fn value_of(mapping: Mapping, y: u64) -> f64
+    ensures { result ≡ value_of mapping.length y }
 {
-    f64::from_bits(numbers::conversions::nearest_binary64(y)) / crate::scale(length) - 1.0
+    f64::from_bits(numbers::conversions::nearest_binary64(y)) / mapping.scale - 1.0
 }
 
 // A code whose top two bits are set: its family and its payload decide.
-fn classify_imapb_special(length: usize, top: u64, family: u8, payload: u64, y: u64) -> DecodedImapb
-    requires { (1 ≤ length) × (length ≤ 8) × (top ≡ top_of length) }
-    ensures { result ≡ special_reading length family payload y }
+fn classify_imapb_special(mapping: Mapping, family: u8, payload: u64, y: u64) -> DecodedImapb
+    ensures { result ≡ special_reading mapping.length family payload y }
 {
     let reserved = DecodedImapb::ReservedSpecial { raw: y };
     match family {
@@ -49,7 +43,7 @@ fn classify_imapb_special(length: usize, top: u64, family: u8, payload: u64, y: 
         },
         0b11010 => DecodedImapb::Special(ImapbSpecial::PositiveQuietNaN { nan_id: payload }),
         0b11011 => DecodedImapb::Special(ImapbSpecial::PositiveSignalingNaN { signal: payload }),
-        0b11100 => overflow_signal(length, top, payload, y),
+        0b11100 => overflow_signal(mapping, payload, y),
         0b11101 => if payload == 0 {
             DecodedImapb::Special(ImapbSpecial::NegativeInfinity)
         } else {
@@ -62,27 +56,27 @@ fn classify_imapb_special(length: usize, top: u64, family: u8, payload: u64, y: 
 }
 
 // Table 3: byte E0 or E1, followed only by zeros.
-fn overflow_signal(length: usize, top: u64, payload: u64, y: u64) -> DecodedImapb
-    requires { (1 ≤ length) × (length ≤ 8) × (top ≡ top_of length) }
-    ensures { result ≡ overflow_reading length payload y }
+fn overflow_signal(mapping: Mapping, payload: u64, y: u64) -> DecodedImapb
+    ensures { result ≡ overflow_reading mapping.length payload y }
 {
     if payload == 0 {
         return DecodedImapb::Special(ImapbSpecial::BelowMin);
     }
-    if payload == top / 128 {
+    if payload == mapping.top / 128 {
         DecodedImapb::Special(ImapbSpecial::AboveMax)
     } else {
         DecodedImapb::ReservedSpecial { raw: y }
     }
 }
 
-// Such a code, by the top code of its length.
-fn special_of(length: usize, top: u64, y: u64) -> DecodedImapb
-    requires { (1 ≤ length) × (length ≤ 8) × (top ≡ top_of length) × (y / 2 ^ (8 * length - 2) ≡ 0b11) }
-    ensures { result ≡ special_reading length (y / 2 ^ (8 * length - 5)) (y % 2 ^ (8 * length - 5)) y }
+// Such a code.
+fn special_of(mapping: Mapping, y: u64) -> DecodedImapb
+    requires { y / 2 ^ (8 * mapping.length - 2) ≡ 0b11 }
+    ensures { result
+        ≡ special_reading mapping.length (y / 2 ^ (8 * mapping.length - 5)) (y % 2 ^ (8 * mapping.length - 5)) y }
 {
-    let family = (y >> (8 * length - 5)) as u8;
-    classify_imapb_special(length, top, family, y & (top / 16 - 1), y)
+    let family = (y >> (8 * mapping.length - 5)) as u8;
+    classify_imapb_special(mapping, family, y & (mapping.top / 16 - 1), y)
 }
 
 // A special or a reserved pattern where the top two bits of a code are set, and otherwise the number given, whatever
@@ -90,31 +84,27 @@ fn special_of(length: usize, top: u64, y: u64) -> DecodedImapb
 pub fn unless_special(length: usize, y: u64, number: DecodedImapb) -> DecodedImapb
     ensures { result ≡ pick (supported length) (unless_special length y number) number }
 {
-    if length < 1 {
+    let Ok(length) = CodeLength::new(length) else {
         return number;
-    }
-    if 8 < length {
-        return number;
-    }
-    let top = crate::top_code(length);
-    if y / (top / 2) == 0b11 {
-        return special_of(length, top, y);
+    };
+    let mapping = length.mapping();
+    if y / (mapping.top / 2) == 0b11 {
+        return special_of(mapping, y);
     }
     number
 }
 
 // What the code y reads as.
-fn reading_of(length: usize, y: u64) -> DecodedImapb
-    requires { (1 ≤ length) × (length ≤ 8) × (y < 2 ^ (8 * length)) }
-    ensures { result ≡ reading length y }
+fn reading_of(mapping: Mapping, y: u64) -> DecodedImapb
+    requires { y < 2 ^ (8 * mapping.length) }
+    ensures { result ≡ reading mapping.length y }
 {
-    let top = crate::top_code(length);
     // from here on the top two bits are set
-    if top / 2 * 3 <= y {
-        return special_of(length, top, y);
+    if mapping.top / 2 * 3 <= y {
+        return special_of(mapping, y);
     }
-    let value = value_of(length, y);
-    if y <= top {
+    let value = value_of(mapping, y);
+    if y <= mapping.top {
         DecodedImapb::Value(value)
     } else {
         DecodedImapb::OutOfRange { decoded: value }
@@ -122,16 +112,11 @@ fn reading_of(length: usize, y: u64) -> DecodedImapb
 }
 
 // A code has 1 to 8 bytes.
-pub fn check_length(length: usize) -> Check
+pub fn check_length(length: usize) -> Result<(), Refusal>
     ensures { checked result ≡ length_rule length }
 {
-    if length < 1 {
-        return Check::Refused(Refusal::UnsupportedImapbLength { length });
-    }
-    if 8 < length {
-        return Check::Refused(Refusal::UnsupportedImapbLength { length });
-    }
-    Check::Passes
+    let _ = CodeLength::new(length)?;
+    Ok(())
 }
 
 // The code that the bytes are: eight are one word.
@@ -144,29 +129,32 @@ fn code_in(bytes: &[u8]) -> u64
     numbers::words::read_be(bytes)
 }
 
-// And the slice that holds it has just as many.
-pub fn check_code(length: usize, bytes: &[u8]) -> Check
-    ensures { checked result ≡ code_rules length bytes.now }
+// The length of a code, and the slice that holds it has just as many bytes.
+fn length_in(length: usize, bytes: &[u8]) -> Result<CodeLength, Refusal>
+    ensures { length_listed result ≡ unless (code_rules length bytes.now) length }
 {
-    let supported = check_length(length);
-    let Check::Passes = supported else {
-        return supported;
-    };
+    let supported = CodeLength::new(length)?;
     if bytes.len() != length {
-        return Check::Refused(Refusal::InvalidLength {
+        return Err(Refusal::InvalidLength {
             expected: length,
             got: bytes.len(),
         });
     }
-    Check::Passes
+    Ok(supported)
+}
+
+// And the slice that holds it has just as many.
+pub fn check_code(length: usize, bytes: &[u8]) -> Result<(), Refusal>
+    ensures { checked result ≡ code_rules length bytes.now }
+{
+    let _ = length_in(length, bytes)?;
+    Ok(())
 }
 
 // What the code reads as.
-pub fn decode_imapb(length: usize, bytes: &[u8]) -> ImapbRead
+pub fn decode_imapb(length: usize, bytes: &[u8]) -> Result<DecodedImapb, Refusal>
     ensures { imapb_listed result ≡ imapb_read length bytes.now }
 {
-    if let Check::Refused(refusal) = check_code(length, bytes) {
-        return ImapbRead::Refused(refusal);
-    }
-    ImapbRead::Done(reading_of(length, code_in(bytes)))
+    let length = length_in(length, bytes)?;
+    Ok(reading_of(length.mapping(), code_in(bytes)))
 }

@@ -1,5 +1,5 @@
 //! The code of a number from -1 to 1.
-ghost use Rattle.std.specs.Prelude.{◌≡◌, ◌≤◌, T, length as length_of};
+ghost use Rattle.std.specs.Prelude.{◌≡◌, T, length as length_of};
 ghost use Rattle.std.specs.Float.{binary64};
 ghost use Rattle.std.specs.Float.Ieee.{of_bits};
 ghost use Rattle.answers.specs.Listed.{written, checked};
@@ -8,86 +8,65 @@ ghost use Rattle.numbers.specs.Words.{bytes_of};
 ghost use Rattle.imapb.specs.Mapping.{code_of, in_range};
 ghost use Rattle.imapb.specs.Tables.{range_rule, imapb_code, imapb_written};
 
-use answers::{Check, Refusal, Written};
-use numbers::conversions::WholePart;
+use crate::code_length::CodeLength;
+use answers::Refusal;
 
 // The bits of -1 and 1.
 const MINUS_ONE: u64 = 0xbff0_0000_0000_0000;
 
 const ONE: u64 = 0x3ff0_0000_0000_0000;
 
-// A code, or nothing for a length or a number that has none.
-#[derive(Clone, Copy)]
-pub enum ImapbCode {
-    Of(u64),
-    Nothing,
-}
-
 // Whether the number whose bits are given lies from -1 to 1.
-pub fn check_range(value: u64) -> Check
+pub fn check_range(value: u64) -> Result<(), Refusal>
     ensures { checked result ≡ range_rule value }
 {
     // without its sign a number above 1, an infinity and a NaN have larger bits than 1
     if ONE < value % 0x8000_0000_0000_0000 {
-        return Check::Refused(Refusal::CorrelationOutOfRange {
+        return Err(Refusal::CorrelationOutOfRange {
             value,
             least: MINUS_ONE,
             most: ONE,
         });
     }
-    Check::Passes
+    Ok(())
 }
 
 // The sum with 1, scaled exactly, and of that the whole part.
-fn code_of(length: usize, value: u64) -> u64
-    requires { (1 ≤ length) × (length ≤ 8) × T (in_range (of_bits binary64 value)) }
-    ensures { result ≡ code_of length (of_bits binary64 value) }
+fn code_of(length: CodeLength, value: u64) -> u64
+    requires { T (in_range (of_bits binary64 value)) }
+    ensures { result ≡ code_of length.bytes (of_bits binary64 value) }
 {
     let sum = f64::from_bits(value) + 1.0;
-    let whole = numbers::conversions::whole_part(f64::to_bits(sum * crate::scale(length)));
-    let WholePart::Whole(y) = whole else {
+    let whole = numbers::conversions::whole_part(f64::to_bits(sum * length.scale()));
+    let Some(y) = whole else {
         return 0;
     };
     y
 }
 
 // The code alone, for whoever writes it to a place of its own.
-pub fn imapb_code(length: usize, value: u64) -> ImapbCode
+pub fn imapb_code(length: usize, value: u64) -> Option<u64>
     ensures { result ≡ imapb_code length value }
 {
-    if length < 1 {
-        return ImapbCode::Nothing;
-    }
-    if 8 < length {
-        return ImapbCode::Nothing;
-    }
-    if let Check::Refused(_) = check_range(value) {
-        return ImapbCode::Nothing;
-    }
-    ImapbCode::Of(code_of(length, value))
+    let length = CodeLength::new(length).ok()?;
+    check_range(value).ok()?;
+    Some(code_of(length, value))
 }
 
 // The code of the number whose bits are given into the front of `out`.
-pub fn encode_imapb(length: usize, value: u64, out: &mut [u8]) -> Written
+pub fn encode_imapb(length: usize, value: u64, out: &mut [u8]) -> Result<usize, Refusal>
     ensures { (written result ≡ imapb_written length value (length_of out.old))
         × (out.new
         ≡ leaves (written result) (bytes_of length (code_of length (of_bits binary64 value))) out.old) }
 {
-    if length < 1 {
-        return Written::Refused(Refusal::UnsupportedImapbLength { length });
-    }
-    if 8 < length {
-        return Written::Refused(Refusal::UnsupportedImapbLength { length });
-    }
+    let supported = CodeLength::new(length)?;
     if out.len() < length {
-        return Written::Refused(Refusal::BufferTooSmall {
+        return Err(Refusal::BufferTooSmall {
             needed: length,
             got: out.len(),
         });
     }
-    if let Check::Refused(refusal) = check_range(value) {
-        return Written::Refused(refusal);
-    }
-    crate::put_code(code_of(length, value), length, out);
-    Written::Done(length)
+    check_range(value)?;
+    supported.put_code(code_of(supported, value), out);
+    Ok(length)
 }

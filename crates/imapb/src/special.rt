@@ -1,15 +1,16 @@
 //! The special values of ST 1201.5, Tables 2 and 3, and the writer of their codes.
-ghost use Rattle.std.specs.Prelude.{◌≡◌, ◌≤◌, length as length_of};
+ghost use Rattle.std.specs.Prelude.{◌≡◌, length as length_of};
 ghost use Rattle.answers.specs.Listed.{written};
 ghost use Rattle.answers.specs.Lent.{leaves};
 ghost use Rattle.numbers.specs.Words.{bytes_of};
 ghost use Rattle.imapb.specs.Special.{family, payload, special_code};
 ghost use Rattle.imapb.specs.Tables.{special_written};
 
-use answers::{Refusal, Written};
+use crate::code_length::CodeLength;
+use answers::Refusal;
 
 // Under the Rust's names. NaN and user codes carry the 8L-5 bits below the family.
-#[derive(Clone, Copy)]
+#[derive(Clone, Copy, Debug, PartialEq, Eq)]
 pub enum ImapbSpecial {
     PositiveInfinity,
     NegativeInfinity,
@@ -40,9 +41,8 @@ fn family_of(special: ImapbSpecial) -> u64
 }
 
 // The bits below them. Table 3's two are told apart by their first byte's last three.
-fn payload_of(special: ImapbSpecial, length: usize) -> u64
-    requires { (1 ≤ length) × (length ≤ 8) }
-    ensures { result ≡ payload length special }
+fn payload_of(special: ImapbSpecial, length: CodeLength) -> u64
+    ensures { result ≡ payload length.bytes special }
 {
     match special {
         ImapbSpecial::UserDefined { signal } => signal,
@@ -50,7 +50,7 @@ fn payload_of(special: ImapbSpecial, length: usize) -> u64
         ImapbSpecial::PositiveQuietNaN { nan_id } => nan_id,
         ImapbSpecial::PositiveSignalingNaN { signal } => signal,
         ImapbSpecial::BelowMin => 0,
-        ImapbSpecial::AboveMax => crate::top_code(length) / 128,
+        ImapbSpecial::AboveMax => length.top_code() / 128,
         ImapbSpecial::NegativeInfinity => 0,
         ImapbSpecial::NegativeQuietNaN { nan_id } => nan_id,
         ImapbSpecial::NegativeSignalingNaN { signal } => signal,
@@ -58,31 +58,30 @@ fn payload_of(special: ImapbSpecial, length: usize) -> u64
 }
 
 // A special value's code into the front of `out`.
-pub fn encode_imapb_special(special: ImapbSpecial, length: usize, out: &mut [u8]) -> Written
+pub fn encode_imapb_special(
+    special: ImapbSpecial,
+    length: usize,
+    out: &mut [u8],
+) -> Result<usize, Refusal>
     ensures { (written result ≡ special_written length special (length_of out.old))
         × (out.new ≡ leaves (written result) (bytes_of length (special_code length special)) out.old) }
 {
-    if length < 1 {
-        return Written::Refused(Refusal::UnsupportedImapbLength { length });
-    }
-    if 8 < length {
-        return Written::Refused(Refusal::UnsupportedImapbLength { length });
-    }
+    let supported = CodeLength::new(length)?;
     if out.len() < length {
-        return Written::Refused(Refusal::BufferTooSmall {
+        return Err(Refusal::BufferTooSmall {
             needed: length,
             got: out.len(),
         });
     }
-    let unit = crate::top_code(length) / 16;
-    let payload = payload_of(special, length);
+    let unit = supported.top_code() / 16;
+    let payload = payload_of(special, supported);
     if unit <= payload {
-        return Written::Refused(Refusal::OutOfRange {
+        return Err(Refusal::OutOfRange {
             value: payload,
             least: 0,
             most: unit - 1,
         });
     }
-    crate::put_code(family_of(special) * unit + payload, length, out);
-    Written::Done(length)
+    supported.put_code(family_of(special) * unit + payload, out);
+    Ok(length)
 }

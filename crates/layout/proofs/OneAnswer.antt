@@ -6,6 +6,7 @@ use Rattle.layout.proofs.control.parse_mode1.Reads as parse-mode1
 use Rattle.layout.proofs.control.parse_mode2.Reads as parse-mode2
 use Rattle.layout.proofs.header.read_header.Reads as read-header
 use Rattle.layout.proofs.pack.bounded_slots.Reads as bounded-slots
+use Rattle.layout.proofs.rule.RefusalFromBroken.from.Reads as refusal-from-broken
 use Rattle.layout.proofs.rule.by.Reads as by
 use Rattle.layout.proofs.size.check_matrix_size_fits.Reads as check-matrix-size-fits
 use Rattle.layout.proofs.size.peek_matrix_size.Reads as peek-matrix-size
@@ -21,6 +22,9 @@ parse-mode2-one κs a r r' s s' p q = p ∙ sym q
 
 pub read-header-one : OneResult read-header.Learnt
 read-header-one κs a r r' s s' p q = p ∙ sym q
+
+pub refusal-from-broken-one : OneResult refusal-from-broken.Learnt
+refusal-from-broken-one κs a r r' s s' p q = p ∙ sym q
 
 pub by_one : OneResult by.Learnt
 by_one κs a r r' s s' p q = ruling-one r r' (p ∙ sym q)

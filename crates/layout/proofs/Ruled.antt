@@ -5,14 +5,14 @@ use Prim.Native.Nat.{ℕ}
 use native.Mathlib.Omega.{arith}
 use borrow.Author.Tests.{eqb-true}
 use lib.Dec.{eqb}
+use Rattle.std.specs.Prelude.{Result, ⊤}
 use Rattle.answers.specs.Table.{Answer, next}
-use Rattle.answers.specs.declared.Refusal.{Refusal}
+use Rattle.answers.specs.Listed.{listed}
 use Rattle.answers.proofs.Next.{IsRule}
-use Rattle.answers.proofs.OneToOne.{listed-one}
+use Rattle.answers.proofs.OneToOne.{listed-one, result-one}
 use Rattle.answers.proofs.Rules.{picked}
 use Rattle.layout.specs.declared.rule.Rule.{Rule}
-use Rattle.layout.specs.declared.rule.Ruling.{Ruling}
-use Rattle.layout.specs.declared.rule.Ruling.TheVariants.{Passes, Refused}
+use Rattle.layout.specs.declared.rule.Broken.{Broken}
 use Rattle.layout.specs.Ruled.{Ruled, passed, refused_by, ruled, named, unnamed}
 
 -- the order is the same without the names
@@ -24,21 +24,21 @@ pub unnamed-last : (x : Rule) (a : Answer) → IsRule a → unnamed (named x a p
 unnamed-last x a i =
     picked (λ u. unnamed u ≡ a) (eqb a.number 0) passed (refused_by x a) (λ t. sym (i.done (eqb-true a.number 0 t))) (λ _. refl)
 
--- a ruling that refuses ends an order of rules, and one that passes goes on to those behind
-module _ {k : Ruling} (x : Rule) (a : Answer) (b : Ruled) (e : ruled k ≡ named x a passed) where
-  pub stops-by : {y : Rule} {r : Refusal} → k ≡ Refused y r → ruled k ≡ named x a b
-  stops-by {y} {r} h =
-      picked (λ u. ruled k ≡ u → ruled k ≡ named x a b) (eqb a.number 0) passed (refused_by x a)
-      (λ _ p. let z : ◌≡◌ {A = ℕ} 0 1 = cc in absurd (omega arith)) (λ f p. rw f p) e
+-- a rule that refuses ends an order of rules, and one that passes goes on to those behind
+module _ (x : Rule) (a : Answer) (b : Ruled) where
+  pub stops-by : {y : Rule} {c : Answer} → refused_by y c ≡ named x a passed → refused_by y c ≡ named x a b
+  stops-by {y} {c} =
+      picked (λ u. refused_by y c ≡ u → refused_by y c ≡ named x a b) (eqb a.number 0) passed (refused_by x a)
+      (λ _ e. let z : ◌≡◌ {A = ℕ} 0 1 = cc in absurd (omega arith)) (λ f e. rw f e)
 
-  pub goes_by : k ≡ Passes → named x a b ≡ b
-  goes_by h =
-      picked (λ u. ruled k ≡ u → named x a b ≡ b) (eqb a.number 0) passed (refused_by x a)
-      (λ t _. rw t) (λ _ p. let z : ◌≡◌ {A = ℕ} 0 1 = cc in absurd (omega arith)) e
+  pub goes_by : passed ≡ named x a passed → named x a b ≡ b
+  goes_by =
+      picked (λ u. passed ≡ u → named x a b ≡ b) (eqb a.number 0) passed (refused_by x a)
+      (λ t _. rw t) (λ _ e. let z : ◌≡◌ {A = ℕ} 0 1 = cc in absurd (omega arith))
 
--- what determines the listed ruling determines the enum
-pub ruling-one : (a b : Ruling) → ruled a ≡ ruled b → a ≡ b
-ruling-one Passes Passes e = refl
-ruling-one Passes (Refused y s) e = let z : ◌≡◌ {A = ℕ} 0 1 = cc in absurd (omega arith)
-ruling-one (Refused x r) Passes e = let z : ◌≡◌ {A = ℕ} 0 1 = cc in absurd (omega arith)
-ruling-one (Refused x r) (Refused y s) e = let p : r ≡ s = listed-one r s (cc) in cc
+-- what determines the listed rule determines it, and what determines the listed ruling the answer
+pub broken-one : (x y : Broken) → x.rule ≡ y.rule → listed x.refusal ≡ listed y.refusal → x ≡ y
+broken-one x y p e = let q = listed-one x.refusal y.refusal e in λ i. record { rule = p i; refusal = q i }
+
+pub ruling-one : (a b : Result ⊤ Broken) → ruled a ≡ ruled b → a ≡ b
+ruling-one = result-one ruled (λ _ _ _. refl) (λ x y e. broken-one x y (cc) (cc)) (λ x r e. cc)

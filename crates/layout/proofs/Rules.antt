@@ -11,22 +11,22 @@ use native.Mathlib.Omega.{arith}
 use lib.Dec.{eqb, leb, ltb}
 use lib.ListN.{length, get_or}
 use borrow.Author.Tests.{lt-ltb, le-ltb, le-leb, lt-leb, ne_eqb}
+use Rattle.std.specs.Prelude.{Err}
 use Rattle.answers.specs.Table.{Answer, short, pick, passes}
 use Rattle.answers.proofs.Rules.{picked}
-use Rattle.numbers.specs.declared.ber_oid.BerOid.TheVariants.{Read}
-use Rattle.numbers.specs.BerOid.{oid_value, oid_read}
+use Rattle.numbers.specs.BerOid.{oid, oid_value, oid_read}
 use Rattle.numbers.proofs.BerOid.{read-tells}
 use Rattle.layout.specs.declared.control.ParseControl.{ParseControl}
-use Rattle.layout.specs.declared.header.Header.TheVariants.{Open, Short}
+use Rattle.layout.specs.declared.header.HeaderError.TheVariants.{Short}
 use Rattle.layout.specs.declared.rule.Rule.TheVariants.{E, F, G}
 use Rattle.layout.specs.Control.{mode1, mode2}
 use Rattle.layout.specs.Triangle.{slots_of, bit_bytes}
-use Rattle.layout.specs.Header.{control_at, said_size, header_of}
+use Rattle.layout.specs.Header.{headed, control_at, said_size, header_of}
 use Rattle.layout.specs.Ruled.{Ruled, passed, named}
 use Rattle.layout.specs.Size.{max_rows, rule_f, rule_g, size_ruled}
 
 -- a) and b), where a number was read
-module _ (bytes : List ℕ) {v k : ℕ} (e : Read v k ≡ oid_read bytes) where
+module _ (bytes : List ℕ) {v k : ℕ} (e : oid v k ≡ oid_read bytes) where
   -- the control starts where the number ends
   at : control_at bytes ≡ k
   at = sym (read-tells bytes e).0
@@ -37,20 +37,20 @@ module _ (bytes : List ℕ) {v k : ℕ} (e : Read v k ≡ oid_read bytes) where
   abbrev first : ℕ
   first = get_or bytes k 0
 
-  pub no-control : length bytes ≤ k → Short ≡ header_of bytes
+  pub no-control : length bytes ≤ k → Err Short ≡ header_of bytes
   no-control h =
       let b =
       picked (λ (n : ℕ). ltb (length bytes) (k + n) ≡ true) (leb 128 first) 2 1
       (λ _. lt-ltb (length bytes) (k + 2) (omega arith)) (λ _. lt-ltb (length bytes) (k + 1) (omega arith)) in
       rw (← e, at, b)
 
-  pub one_byte : k < length bytes → first < 128 → Open v (mode1 first) (k + 1) ≡ header_of bytes
+  pub one_byte : k < length bytes → first < 128 → headed v (mode1 first) (k + 1) ≡ header_of bytes
   one_byte h m = rw (value, ← e, at, lt-leb 128 first m, le-ltb (length bytes) (k + 1) (omega arith))
 
-  pub no_second : 128 ≤ first → length bytes < k + 2 → Short ≡ header_of bytes
+  pub no_second : 128 ≤ first → length bytes < k + 2 → Err Short ≡ header_of bytes
   no_second m h = rw (← e, at, le-leb 128 first m, lt-ltb (length bytes) (k + 2) h)
 
-  pub two_bytes : 128 ≤ first → k + 2 ≤ length bytes → Open v (mode2 first (get_or bytes (k + 1) 0)) (k + 2) ≡ header_of bytes
+  pub two_bytes : 128 ≤ first → k + 2 ≤ length bytes → headed v (mode2 first (get_or bytes (k + 1) 0)) (k + 2) ≡ header_of bytes
   two_bytes m h = rw (value, ← e, at, le-leb 128 first m, le-ltb (length bytes) (k + 2) h, add-one)
 
 -- c) two lengths are both 0 where their sum is

@@ -1,12 +1,12 @@
 -- Elements 1 and 2, N and Parse Control behind it: what they say, and rules a) and b) of the reader's order.
-use Rattle.std.specs.Prelude.{ℕ, suc, ◌+◌, Bool, List, leb, ltb, length, get_or}
+use Rattle.std.specs.Prelude.{ℕ, suc, ◌+◌, Bool, List, leb, ltb, length, get_or, Option, Some, None, Result, Ok, Err}
 use Rattle.answers.specs.Table.{Answer, short, pick, passes, next}
 use Rattle.numbers.specs.declared.ber_oid.BerOid.{BerOid}
-use Rattle.numbers.specs.declared.ber_oid.BerOid.TheVariants as oid
 use Rattle.numbers.specs.BerOid.{continued, oid_value, oid_read}
 use Rattle.layout.specs.declared.control.ParseControl.{ParseControl}
-use Rattle.layout.specs.declared.header.Header.{Header}
-use Rattle.layout.specs.declared.header.Header.TheVariants.{Open, Unreadable, Short}
+use Rattle.layout.specs.declared.header.Head.{Head}
+use Rattle.layout.specs.declared.header.HeaderError.{HeaderError}
+use Rattle.layout.specs.declared.header.HeaderError.TheVariants.{Unreadable, Short}
 use Rattle.layout.specs.Control.{mode1, mode2}
 
 abbrev pub control_at : List ℕ → ℕ
@@ -28,28 +28,32 @@ control_of bytes =
 abbrev pub body_at : List ℕ → ℕ
 body_at bytes = control_at bytes + pick (is_mode2 bytes) 2 1
 
--- what the two say, where N is readable and the control is not short
-abbrev pub header_behind : List ℕ → BerOid → Header
-header_behind bytes oid.Unreadable = Unreadable
-header_behind bytes (oid.Read n taken) =
-    pick (ltb (length bytes) (body_at bytes)) Short (Open (said_size bytes) (control_of bytes) (body_at bytes))
+-- a header: N, the control and the byte after it
+abbrev pub headed : ℕ → ParseControl → ℕ → Result Head HeaderError
+headed n control body = Ok (record { n = n; control = control; body = body })
 
-abbrev pub header_of : List ℕ → Header
+-- what the two say, where N is readable and the control is not short
+abbrev pub header_behind : List ℕ → Option BerOid → Result Head HeaderError
+header_behind bytes None = Err Unreadable
+header_behind bytes (Some oid) =
+    pick (ltb (length bytes) (body_at bytes)) (Err Short) (headed (said_size bytes) (control_of bytes) (body_at bytes))
+
+abbrev pub header_of : List ℕ → Result Head HeaderError
 header_of bytes = header_behind bytes (oid_read bytes)
 
 -- a) N unreadable: 1 with 0, 0
-abbrev pub rule_a : Header → Answer
-rule_a Unreadable = short 0 0
-rule_a Short = passes
-rule_a (Open n control body) = passes
+abbrev pub rule_a : Result Head HeaderError → Answer
+rule_a (Err Unreadable) = short 0 0
+rule_a (Err Short) = passes
+rule_a (Ok header) = passes
 
 -- b) Parse Control short: 1 with 1, 0
-abbrev pub rule_b : Header → Answer
-rule_b Unreadable = passes
-rule_b Short = short 1 0
-rule_b (Open n control body) = passes
+abbrev pub rule_b : Result Head HeaderError → Answer
+rule_b (Err Unreadable) = passes
+rule_b (Err Short) = short 1 0
+rule_b (Ok header) = passes
 
-abbrev pub header_refusal : Header → Answer
+abbrev pub header_refusal : Result Head HeaderError → Answer
 header_refusal h = next (rule_a h) (rule_b h)
 
 abbrev pub head_rules : List ℕ → Answer

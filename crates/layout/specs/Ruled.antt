@@ -1,18 +1,17 @@
 -- Rules one behind the other, by name: all pass, or the first that does not refuses, with its answer.
-use Rattle.std.specs.Prelude.{eqb}
+use Rattle.std.specs.Prelude.{eqb, Err, Ok, Result, ⊤}
 use Rattle.answers.specs.Table.{Answer, pick, passes}
 use Rattle.answers.specs.Listed.{listed}
 use Rattle.layout.specs.declared.rule.Rule.{Rule}
-use Rattle.layout.specs.declared.rule.Ruling.{Ruling}
-use Rattle.layout.specs.declared.rule.Ruling.TheVariants.{Passes, Refused}
+use Rattle.layout.specs.declared.rule.Broken.{Broken}
 
 pub data Ruled : Type 0 where
   passed : Ruled
   refused_by : Rule → Answer → Ruled
 
-abbrev pub ruled : Ruling → Ruled
-ruled Passes = passed
-ruled (Refused x r) = refused_by x (listed r)
+abbrev pub ruled : Result ⊤ Broken → Ruled
+ruled (Ok _) = passed
+ruled (Err b) = refused_by b.rule (listed b.refusal)
 
 -- what rule x answers, and behind it what counts where it does not refuse
 abbrev pub named : Rule → Answer → Ruled → Ruled

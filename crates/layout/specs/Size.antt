@@ -1,10 +1,8 @@
 -- Document 01's limits, the rules that a pack's size decides, c) to g) of the reader's order, and peek.
-use Rattle.std.specs.Prelude.{ℕ, ◌-◌, ◌*◌, not, ◌&&◌, List, [], ◌∷◌, eqb, ltb, length}
+use Rattle.std.specs.Prelude.{ℕ, ◌-◌, ◌*◌, not, ◌&&◌, List, [], ◌∷◌, eqb, ltb, length, None, Some, Option}
 use Rattle.answers.specs.Table.{Answer, answer, short, wholes, pick, passes}
 use Rattle.layout.specs.declared.control.ParseControl.{ParseControl}
 use Rattle.layout.specs.declared.rule.Rule.TheVariants.{A, B, C, D, E, F, G}
-use Rattle.layout.specs.declared.size.Peek.{Peek}
-use Rattle.layout.specs.declared.size.Peek.TheVariants.{Size, Nothing}
 use Rattle.layout.specs.Header.{said_size, control_of, body_at, header_of, rule_a, rule_b}
 use Rattle.layout.specs.Ruled.{Ruled, passed, named, unnamed}
 use Rattle.layout.specs.Triangle.{slots_of, bit_bytes}
@@ -60,5 +58,5 @@ abbrev pub fit_rules : List ℕ → Answer
 fit_rules bytes = unnamed (fit_ruled bytes)
 
 -- N, or nothing where one of a) to g) refuses
-abbrev pub peeked : List ℕ → Peek
-peeked bytes = pick (eqb (fit_rules bytes).number 0) (Size (said_size bytes)) Nothing
+abbrev pub peeked : List ℕ → Option ℕ
+peeked bytes = pick (eqb (fit_rules bytes).number 0) (Some (said_size bytes)) None

@@ -1,8 +1,6 @@
 -- The slots of the upper triangle of an N×N matrix, row by row.
-use Rattle.std.specs.Prelude.{ℕ, suc, ◌+◌, ◌-◌, ◌*◌, ◌/◌, ◌<◌, ◌≡◌, ◌&&◌, ltb}
+use Rattle.std.specs.Prelude.{ℕ, suc, ◌+◌, ◌-◌, ◌*◌, ◌/◌, ◌<◌, ◌≡◌, ◌&&◌, ltb, None, Some, Option}
 use Rattle.answers.specs.Table.{pick}
-use Rattle.layout.specs.declared.triangle.TriangleSlot.{TriangleSlot}
-use Rattle.layout.specs.declared.triangle.TriangleSlot.TheVariants.{At, Nothing}
 
 -- M = N(N-1)/2, and 0 for N=0
 unfoldable pub slots_of : ℕ → ℕ
@@ -16,8 +14,8 @@ bit_bytes M = (M + 7) / 8
 unfoldable pub slot_of : ℕ → ℕ → ℕ → ℕ
 slot_of n i j = i * (2 * n - i - 1) / 2 + (j - i - 1)
 
-abbrev pub triangle_slot : ℕ → ℕ → ℕ → TriangleSlot
-triangle_slot n i j = pick (ltb i j && ltb j n) (At (slot_of n i j)) Nothing
+abbrev pub triangle_slot : ℕ → ℕ → ℕ → Option ℕ
+triangle_slot n i j = pick (ltb i j && ltb j n) (Some (slot_of n i j)) None
 
 -- ---- what makes it the numbering of the pairs i<j below n, row by row
 abbrev pub IsPair : ℕ → ℕ → ℕ → Type 0

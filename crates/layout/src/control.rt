@@ -3,7 +3,7 @@ ghost use Rattle.std.specs.Prelude.{◌≡◌};
 ghost use Rattle.layout.specs.Control.{mode1, mode2};
 
 // CS: a Bit Vector says which slots are present. Cf, Sf: mapped (ST 1201) and not IEEE. Clen, Slen: bytes to a value.
-#[derive(Clone, Copy)]
+#[derive(Clone, Copy, Debug, PartialEq, Eq)]
 pub struct ParseControl {
     pub cs: bool,
     pub cf: bool,

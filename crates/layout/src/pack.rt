@@ -3,7 +3,7 @@ ghost use Rattle.std.specs.Prelude.{◌≡◌, min};
 ghost use Rattle.layout.specs.Size.{max_slots};
 
 // What a pack that was read holds; the numbers themselves stand in the lent memory.
-#[derive(Clone, Copy)]
+#[derive(Clone, Copy, Debug, PartialEq, Eq)]
 pub struct SdccFlp {
     pub matrix_size: u64,
     pub deviations: usize,

@@ -3,10 +3,10 @@ ghost use Rattle.std.specs.Prelude.{◌≡◌};
 ghost use Rattle.answers.specs.Listed.{checked};
 ghost use Rattle.layout.specs.Ruled.{passed, named, ruled};
 
-use answers::{Check, Refusal};
+use answers::Refusal;
 
 // a) to k), in the order in which a pack is held to them.
-#[derive(Clone, Copy)]
+#[derive(Clone, Copy, Debug, PartialEq, Eq)]
 pub enum Rule {
     A,
     B,
@@ -21,19 +21,25 @@ pub enum Rule {
     K,
 }
 
-// What rules answer, one behind the other: all pass, or the first that does not refuses.
-#[derive(Clone, Copy)]
-pub enum Ruling {
-    Passes,
-    Refused { rule: Rule, refusal: Refusal },
+// Of rules one behind the other, the first that does not pass, and its refusal.
+#[derive(Clone, Copy, Debug, PartialEq, Eq)]
+pub struct Broken {
+    pub rule: Rule,
+    pub refusal: Refusal,
+}
+
+// The refusal, without the name.
+impl From<Broken> for Refusal {
+    ghost from_gives = { λ broken refusal. refusal ≡ broken.refusal };
+
+    fn from(broken: Broken) -> Refusal {
+        broken.refusal
+    }
 }
 
 // What a rule answers, under its name.
-pub fn by(rule: Rule, check: Check) -> Ruling
+pub fn by(rule: Rule, check: Result<(), Refusal>) -> Result<(), Broken>
     ensures { ruled result ≡ named rule (checked check) passed }
 {
-    match check {
-        Check::Passes => Ruling::Passes,
-        Check::Refused(refusal) => Ruling::Refused { rule, refusal },
-    }
+    check.map_err(|refusal| Broken { rule, refusal })
 }

@@ -8,11 +8,11 @@ use native.Mathlib.Omega.{arith}
 use borrow.Author.Tests.{lt-ltb, le-ltb}
 use lib.Dec.{ltb}
 use lib.ListN.{length}
+use Rattle.std.specs.Prelude.{Err, Ok}
 use Rattle.answers.specs.Lent.{leaves}
 use Rattle.answers.specs.Listed.{written}
 use Rattle.answers.specs.Table.{Answer}
 use Rattle.answers.specs.declared.Refusal.TheVariants.{BufferTooSmall}
-use Rattle.answers.specs.declared.Written.TheVariants.{Done, Refused}
 use Rattle.answers.proofs.Rules.{picked}
 use Rattle.answers.proofs.Stored.{sets_over}
 use Rattle.text.specs.Put.{Put}
@@ -21,19 +21,19 @@ use Rattle.lines.specs.Printed.{print_answer}
 
 module _ (room : ℕ) (text l : List ℕ) where
   pub print-none : length l < room
-      → (written (Refused (BufferTooSmall room (length l))) ≡ print_answer room text (length l))
-      × (l ≡ leaves (written (Refused (BufferTooSmall room (length l)))) text l)
+      → (written (Err (BufferTooSmall room (length l))) ≡ print_answer room text (length l))
+      × (l ≡ leaves (written (Err (BufferTooSmall room (length l)))) text l)
   print-none h = rw (lt-ltb (length l) room h) (refl, refl)
 
   pub print-whole : room ≤ length l → length text ≤ room → {r : ℕ} {m : List ℕ} → Put text 0 l r m
-      → (written (Done r) ≡ print_answer room text (length l)) × (m ≡ leaves (written (Done r)) text l)
+      → (written (Ok r) ≡ print_answer room text (length l)) × (m ≡ leaves (written (Ok r)) text l)
   print-whole h k p =
       (rw (le-ltb (length l) room h, put_whole p (omega arith), zero-add), p.stored ∙ sets_over text l (omega arith))
 
 -- the length that is answered is within the room
 pub print-within : (room : ℕ) (text : List ℕ) (got : ℕ) → length text ≤ room → {k : ℕ}
-    → written (Done k) ≡ print_answer room text got → k ≤ room
+    → written (Ok k) ≡ print_answer room text got → k ≤ room
 print-within room text got h {k} =
-    picked (λ (a : Answer). written (Done k) ≡ a → k ≤ room) (ltb got room) _ _
+    picked (λ (a : Answer). written (Ok k) ≡ a → k ≤ room) (ltb got room) _ _
     (λ _ e. let z : ◌≡◌ {A = ℕ} 0 5 = ap (λ (a : Answer). a.number) e in absurd (omega arith))
     (λ _ e. let c = ap (λ (a : Answer). a.carries) e in let q : k ≡ length text = cc in omega (arith, h))

@@ -1,4 +1,4 @@
-//! The lines that the program prints, each put into lent memory.
+//! The lines that the program prints, each put on a page.
 #![tactic(auto)]
 
 pub mod line;

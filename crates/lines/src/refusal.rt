@@ -1,27 +1,26 @@
 //! The line of a refusal: its number and what it carries.
 ghost use Rattle.answers.specs.Listed.{listed};
-ghost use Rattle.text.specs.Put.{Put};
+ghost use Rattle.text.specs.Page.{Adds};
 ghost use Rattle.lines.specs.Lines.{refused_text, refused_line};
 
 use crate::values::put_entries;
 use answers::Refusal;
 use answers::row::row_of;
-use text::put::{put_byte, put_named};
+use text::page::Page;
 
 // Document 01's number and values.
-pub fn put_refused(refusal: Refusal, at: usize, out: &mut [u8]) -> usize
-    ensures { Put (refused_text (listed refusal)) at out.old result out.new }
+pub fn put_refused(refusal: Refusal, page: &mut Page<'_>)
+    ensures { Adds (refused_text (listed refusal)) page.old page.new }
 {
     let row = row_of(refusal);
-    let values = row.values;
-    let numbered = put_named(b"refused ", row.number, at, out);
-    put_entries(row.count, values, row.floats, numbered, out)
+    page.named(b"refused ", row.number);
+    put_entries(row.count, row.values, row.floats, page);
 }
 
 // As a line.
-pub fn put_refusal(refusal: Refusal, at: usize, out: &mut [u8]) -> usize
-    ensures { Put (refused_line (listed refusal)) at out.old result out.new }
+pub fn put_refusal(refusal: Refusal, page: &mut Page<'_>)
+    ensures { Adds (refused_line (listed refusal)) page.old page.new }
 {
-    let said = put_refused(refusal, at, out);
-    put_byte(b'\n', said, out)
+    put_refused(refusal, page);
+    page.byte(b'\n');
 }

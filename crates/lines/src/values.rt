@@ -2,41 +2,37 @@
 ghost use Rattle.std.specs.Prelude.{take};
 ghost use Rattle.answers.specs.Row.{floats64};
 ghost use Rattle.answers.specs.Table.{whole, bits64, wholes, pick};
-ghost use Rattle.text.specs.Put.{Put};
+ghost use Rattle.text.specs.Page.{Adds};
 ghost use Rattle.lines.specs.Lines.{entry_text, entries, numbers};
 
-use text::part::{within, within_words};
-use text::put::{put_bits, put_named};
+use text::page::Page;
+use text::part::within;
 
 // In decimal, or as the bits of a binary64.
-fn put_value(value: u64, floats: bool, at: usize, out: &mut [u8]) -> usize
-    ensures { Put (entry_text (pick floats (bits64 value) (whole value)))
-        at out.old result out.new }
+fn put_value(value: u64, floats: bool, page: &mut Page<'_>)
+    ensures { Adds (entry_text (pick floats (bits64 value) (whole value))) page.old page.new }
 {
     if floats {
-        return put_bits(value, at, out);
+        page.bits(value);
+    } else {
+        page.named(b" ", value);
     }
-    put_named(b" ", value, at, out)
 }
 
 // The first `count` of them, or all.
-pub fn put_entries(count: usize, values: [u64; 3], floats: bool, at: usize, out: &mut [u8]) -> usize
-    ensures { Put (entries (pick floats (floats64 (take count values)) (wholes (take count values))))
-        at out.old result out.new }
+pub fn put_entries(count: usize, values: [u64; 3], floats: bool, page: &mut Page<'_>)
+    ensures { Adds (entries (pick floats (floats64 (take count values)) (wholes (take count values))))
+        page.old page.new }
 {
-    let most = within_words(count, &values);
-    let mut next = within(at, out);
-    let mut i: usize = 0;
-    while i < most {
-        next = put_value(values[i], floats, next, out);
-        i += 1;
+    let most = within(count, &values);
+    for &value in &values[..most] {
+        put_value(value, floats, page);
     }
-    next
 }
 
 // In decimal.
-pub fn put_values(count: usize, values: [u64; 3], at: usize, out: &mut [u8]) -> usize
-    ensures { Put (numbers (take count values)) at out.old result out.new }
+pub fn put_values(count: usize, values: [u64; 3], page: &mut Page<'_>)
+    ensures { Adds (numbers (take count values)) page.old page.new }
 {
-    put_entries(count, values, false, at, out)
+    put_entries(count, values, false, page);
 }

@@ -1,11 +1,12 @@
 -- The first entries of a list: a list that is too short, and one that is long enough, whose entries are tested one by one.
 -- Assumes nothing.
 use mathlib.Core.Path.{◌≡◌, refl, sym}
-use mathlib.Core.Bool.{Bool, false, and-false}
+use mathlib.Core.Bool.{Bool, true, false, ◌&&◌, and-false}
 use mathlib.Core.List.{List, [], ◌∷◌}
 use Prim.Native.Nat.{ℕ, zero, suc, ◌≤◌, ◌<◌}
 use native.Mathlib.Omega.{arith}
-use lib.ListN.{length, get_or}
+use lib.ListN.{length, take, get_or}
+use Rattle.std.specs.List.{list_all, zip}
 use Rattle.answers.specs.Every.{every}
 use Rattle.answers.proofs.Every.{every_front}
 use Rattle.matrix.specs.Usable.{first_all}
@@ -21,3 +22,25 @@ first-every test zero lent h = refl
 first-every test (suc count) [] h = absurd (omega arith)
 first-every test (suc count) (x ∷ lent) h =
     rw (first-every test count lent (omega arith)) (sym (every_front count (λ k. test (get_or (x ∷ lent) k 0))))
+
+-- ---- as a chain makes the tests
+pub first-chain : (test : ℕ → Bool) (count : ℕ) (lent : List ℕ) → count ≤ length lent
+    → list_all test (take count lent) ≡ first_all test count lent
+first-chain test zero lent h = refl
+first-chain test (suc count) [] h = absurd (omega arith)
+first-chain test (suc count) (x ∷ lent) h = rw (first-chain test count lent (omega arith))
+
+across : (p q x y : Bool) → (p && q) && (x && y) ≡ ((p && x) && (q && y))
+across true true x y = refl
+across true false x y = sym (and-false x)
+across false q x y = refl
+
+-- two lists side by side
+module _ (a b : ℕ → Bool) where
+  pub chain-both : (count : ℕ) (cs ss : List ℕ) → count ≤ length cs → count ≤ length ss
+      → list_all (λ (p : ℕ × ℕ). a p.0 && b p.1) (zip (take count cs) (take count ss)) ≡ (first_all a count cs && first_all b count ss)
+  chain-both zero cs ss h k = refl
+  chain-both (suc count) [] ss h k = absurd (omega arith)
+  chain-both (suc count) (c ∷ cs) [] h k = absurd (omega arith)
+  chain-both (suc count) (c ∷ cs) (s ∷ ss) h k =
+      rw (chain-both count cs ss (omega arith) (omega arith)) (across (a c) (b s) (first_all a count cs) (first_all b count ss))

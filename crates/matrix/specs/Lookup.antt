@@ -1,20 +1,19 @@
 -- Document 01, "Lookup".
-use Rattle.std.specs.Prelude.{ℕ, min, max, ◌&&◌, ◌||◌, List, [], ◌∷◌, eqb, leb, ltb, length, get_or}
+use Rattle.std.specs.Prelude.{ℕ, min, max, ◌&&◌, ◌||◌, List, [], ◌∷◌, eqb, leb, ltb, length, get_or, Err, Ok, Result}
 use Rattle.answers.specs.Table.{Answer, answer, bits64, wholes, pick}
 use Rattle.answers.specs.Listed.{listed}
 use Rattle.layout.specs.declared.pack.SdccFlp.{SdccFlp}
 use Rattle.layout.specs.Size.{max_rows}
 use Rattle.layout.specs.Triangle.{slot_of}
-use Rattle.matrix.specs.declared.lookup.Cell.{Cell}
-use Rattle.matrix.specs.declared.lookup.Cell.TheVariants.{Number, Refused}
+use Rattle.answers.specs.declared.Refusal.{Refusal}
 
 -- done carries the number
 abbrev pub number : ℕ → Answer
 number bits = answer 0 (bits64 bits ∷ [])
 
-abbrev pub cell_listed : Cell → Answer
-cell_listed (Number bits) = number bits
-cell_listed (Refused r) = listed r
+abbrev pub cell_listed : Result ℕ Refusal → Answer
+cell_listed (Ok bits) = number bits
+cell_listed (Err r) = listed r
 
 -- 7 carries i and j
 abbrev pub no_such_cell : ℕ → ℕ → Answer

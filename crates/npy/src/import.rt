@@ -6,23 +6,22 @@ ghost use Rattle.npy_header.specs.Header.{header_length, size_in};
 ghost use Rattle.npy.specs.Rules.{size_rules, file_rules, import_rules, import_answer};
 ghost use Rattle.npy.specs.Left.{left_deviations, left_correlations, left_states};
 
-use crate::pairs::check_pairs;
-use crate::store::{store_correlations, store_deviations, store_states};
-use answers::{Check, Refusal};
+use crate::entry::MatrixFile;
+use crate::store::store_states;
+use answers::Refusal;
 use layout::pack::SdccFlp;
 use layout::triangle::corr_slots;
 use npy_header::check::{check_header, size_in};
 use npy_header::header::HEADER_LENGTH;
-use reader::read::ReadAnswer;
 use rules::rooms::check_rooms_for;
 
 // N, and the body's length.
-fn check_size(file: &[u8], n: u64) -> Check
+fn check_size(file: &[u8], n: u64) -> Result<(), Refusal>
     requires { header_length ≤ length file.now }
     ensures { checked result ≡ size_rules file.now n }
 {
     if SdccFlp::MAX_ROWS < n {
-        return Check::Refused(Refusal::OutOfRange {
+        return Err(Refusal::OutOfRange {
             value: n,
             least: 0,
             most: SdccFlp::MAX_ROWS,
@@ -32,36 +31,37 @@ fn check_size(file: &[u8], n: u64) -> Check
     let expected = 8 * (rows * rows);
     let got = file.len() - HEADER_LENGTH;
     if got != expected {
-        return Check::Refused(Refusal::InvalidLength { expected, got });
+        return Err(Refusal::InvalidLength { expected, got });
     }
-    Check::Passes
+    Ok(())
 }
 
 // The header, N, the body's length, the pairs.
-fn check_file(file: &[u8], n: u64) -> Check
+fn check_file(file: &[u8], n: u64) -> Result<(), Refusal>
     requires { n ≡ size_in file.now }
     ensures { checked result ≡ file_rules file.now }
 {
-    let header = check_header(file);
-    let Check::Passes = header else {
-        return header;
+    check_header(file)?;
+    check_size(file, n)?;
+    let matrix = MatrixFile {
+        file,
+        rows: n as usize,
     };
-    let size = check_size(file, n);
-    let Check::Passes = size else {
-        return size;
-    };
-    check_pairs(file, n as usize)
+    matrix.check_pairs()
 }
 
 // And then the rooms.
-fn check_import(file: &[u8], n: u64, deviations: usize, correlations: usize, states: usize) -> Check
+fn check_import(
+    file: &[u8],
+    n: u64,
+    deviations: usize,
+    correlations: usize,
+    states: usize,
+) -> Result<(), Refusal>
     requires { n ≡ size_in file.now }
     ensures { checked result ≡ import_rules file.now deviations correlations states }
 {
-    let held = check_file(file, n);
-    let Check::Passes = held else {
-        return held;
-    };
+    check_file(file, n)?;
     check_rooms_for(
         n as usize,
         corr_slots(n as u32) as usize,
@@ -77,7 +77,7 @@ pub fn import_npy(
     deviations: &mut [u64],
     correlations: &mut [u64],
     states: &mut [u8],
-) -> ReadAnswer
+) -> Result<SdccFlp, Refusal>
     ensures { (read_listed result
         ≡ import_answer file.now (length deviations.old) (length correlations.old)
         (length states.old))
@@ -86,16 +86,14 @@ pub fn import_npy(
         × (states.new ≡ left_states (read_listed result) file.now states.old) }
 {
     let n = size_in(file);
-    let check = check_import(file, n, deviations.len(), correlations.len(), states.len());
-    if let Check::Refused(refusal) = check {
-        return ReadAnswer::Refused(refusal);
-    }
+    check_import(file, n, deviations.len(), correlations.len(), states.len())?;
     let rows = n as usize;
     let slots = corr_slots(n as u32) as usize;
-    store_deviations(file, rows, deviations);
-    store_correlations(file, rows, correlations);
+    let matrix = MatrixFile { file, rows };
+    matrix.store_deviations(deviations);
+    matrix.store_correlations(correlations);
     store_states(slots, states);
-    ReadAnswer::Done(SdccFlp {
+    Ok(SdccFlp {
         matrix_size: n,
         deviations: rows,
         slots,

@@ -11,7 +11,8 @@ use Rattle.answers.proofs.Joined.{length-joined, joined-around, joined_same}
 use Rattle.numbers.specs.Words.{low_bytes_of}
 use Rattle.numbers.proofs.Low.{length-low}
 use Rattle.layout.specs.Size.{max_rows}
-use Rattle.layout.specs.Triangle.{slot_of}
+use Rattle.layout.specs.Triangle.{slots_of, slot_of}
+use Rattle.layout.proofs.RowByRow.{row_next, row_within}
 use Rattle.npy_header.specs.Header.{max_size}
 use Rattle.npy_export.specs.File.{body_length, file_length, entry_of, entry_bytes, row_bytes, body_of, file_of}
 use Rattle.npy_export.specs.Parts.{slot_bytes, left_bytes, right_bytes}
@@ -63,3 +64,7 @@ module _ (n : ℕ) (ds cs : List ℕ) where
       let p = joined_same i (λ j l. ap (low_bytes_of 8) (entry-left i j l)) in
       let q = joined_same (n - 1 - i) (λ k l. ap (low_bytes_of 8) (entry-right i (i + 1 + k) (omega arith))) in
       joined-around (entry_bytes n ds cs i) i n h ∙ ap₂ ◌++◌ p (ap₂ ◌++◌ (ap (low_bytes_of 8) (entry-diagonal i)) q)
+
+-- a row's own slots are some of all
+pub row_ends : (n i first : ℕ) (cs : List ℕ) → i < n → slots_of n ≤ length cs → first ≡ slot_of n i (i + 1) → first + (n - 1 - i) ≤ length cs
+row_ends n i first cs h k e = omega (arith, row_next n i h, row_within n (i + 1) (omega arith))

@@ -10,7 +10,8 @@ ghost use Rattle.npy_export.specs.Parts.{left_bytes, right_bytes};
 use npy_header::header::HEADER_LENGTH;
 use numbers::words::write_le;
 
-// An entry from a place on: a binary64 by its bits, low byte first.
+// An entry from a place on: a binary64 by its bits, low byte first. No page is taken here or below: whatever is written
+// is proved to fit, and a row's facts are asked for where it is written, since a type of them would serve one call.
 fn put_entry(bits: u64, at: usize, out: &mut [u8])
     requires { at + 8 ≤ length out.old }
     ensures { out.new ≡ sets out.old at (low_bytes_of 8 bits) }
@@ -29,13 +30,11 @@ fn put_left(i: usize, rows: usize, correlations: &[u64], at: usize, out: &mut [u
     let mut behind = i;
     let mut step = rows - 1;
     let mut next = at;
-    let mut j: usize = 0;
-    while j < i {
+    for _ in 0..i {
         put_entry(correlations[behind - 1], next, out);
         step -= 1;
         behind += step;
         next += 8;
-        j += 1;
     }
 }
 
@@ -48,11 +47,9 @@ fn put_right(i: usize, rows: usize, first: usize, correlations: &[u64], at: usiz
 {
     let count = rows - 1 - i;
     let mut next = at;
-    let mut k: usize = 0;
-    while k < count {
-        put_entry(correlations[first + k], next, out);
+    for &correlation in &correlations[first..first + count] {
+        put_entry(correlation, next, out);
         next += 8;
-        k += 1;
     }
 }
 
@@ -86,11 +83,9 @@ pub(crate) fn put_body(rows: usize, deviations: &[u64], correlations: &[u64], ou
 {
     let mut first: usize = 0;
     let mut at = HEADER_LENGTH;
-    let mut i: usize = 0;
-    while i < rows {
+    for i in 0..rows {
         put_row(i, rows, first, deviations, correlations, at, out);
         first += rows - 1 - i;
         at += 8 * rows;
-        i += 1;
     }
 }

@@ -9,9 +9,10 @@ use borrow.Author.Tests.{lt-ltb, le-ltb, ltb-true, ltb-false, eqb-true, eqb-fals
 use lib.Dec.{ltb, eqb}
 use lib.ListN.{length, take, get_or, length-take}
 use lib.Seq.{take_all, take-take, get_or-take}
+use Rattle.std.specs.Prelude.{Some}
 use Rattle.answers.specs.Table.{Answer, passes}
 use Rattle.answers.proofs.Rules.{picked}
-use Rattle.text.specs.Numeral.{digit_at}
+use Rattle.text.specs.Numeral.{digit_at, in_decimal}
 use Rattle.text.proofs.Figures.{length-decimal}
 use Rattle.text.proofs.Order.{lt-or-le}
 use Rattle.npy_header.specs.Header.{header_length, front, header, max_size, size_in, break_of, break_in}
@@ -60,8 +61,8 @@ module _ (f h : List ℕ) where
 front_of : (n : ℕ) → take 61 (header n) ≡ front
 front_of n = rw (header-split n)
 
-header-digit : (n : ℕ) → n ≤ max_size → digit_at (header n) 61 < 10
-header-digit n h = let d = digits_of 8 n (omega arith) (omega arith) in rw (header-split n, d.are) d.digit
+header-digit : (n : ℕ) → n ≤ max_size → (d : ℕ) × (in_decimal (digit_at (header n) 61) ≡ Some d)
+header-digit n h = let d = digits_of 8 n (omega arith) (omega arith) in (d.value, rw (header-split n, d.are) d.digit)
 
 -- ---- a file that is held to the header of its own N
 module _ (file : List ℕ) where
@@ -97,8 +98,9 @@ module _ (file : List ℕ) where
 
     spelled : 61 ≤ break_in file → Spells file (size_in file)
     spelled l =
+        let d = header-digit s.n s.small in
         spelled-size file (same-fewer file (header (size_in file)) 61 (break_in file) l own-before.2 ∙ front_of (size_in file))
-        (rw (same_at file (header s.n) 61 (suc (break_in file)) (omega arith) s.same) (header-digit s.n s.small))
+        {d = d.0} (rw (same_at file (header s.n) 61 (suc (break_in file)) (omega arith) s.same) d.1)
 
     in-number : Spells file (size_in file) → break_in file < end_of (size_in file) → ⊥
     in-number p l =

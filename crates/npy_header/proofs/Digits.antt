@@ -1,6 +1,6 @@
 -- The digits of a decimal number, read back.
 -- Assumes nothing.
-use mathlib.Core.Path.{◌≡◌, sym, ap, ◌∙◌}
+use mathlib.Core.Path.{◌≡◌, refl, sym, ap, ◌∙◌}
 use mathlib.Core.List.{List, [], ◌∷◌, ◌++◌}
 use mathlib.Core.Logic.{⊎_elim}
 use Prim.Native.Nat.{ℕ, zero, suc, ◌+◌, ◌-◌, ◌*◌, ◌/◌, ◌%◌, ◌^◌, ◌≤◌, ◌<◌}
@@ -8,52 +8,58 @@ use native.Mathlib.Nat.{pow-suc}
 use native.Mathlib.Omega.{arith}
 use borrow.Author.Tests.{lt-ltb, le-ltb, le-leb, ltb-false}
 use lib.Dec.{ltb, leb}
+use Rattle.std.specs.Prelude.{Option, None, Some}
 use Rattle.answers.proofs.Rules.{picked}
 use Rattle.text.specs.Text.{glyph, decimal}
-use Rattle.text.specs.Numeral.{worth}
+use Rattle.text.specs.Numeral.{worth, in_decimal}
 use Rattle.text.proofs.Figures.{decimal-one, decimal-more}
+use Rattle.text.proofs.Line.{decimal-digit}
 use Rattle.text.proofs.Order.{lt-or-le}
 
 -- ---- one digit
-pub worth-glyph : (d : ℕ) → d < 10 → worth (glyph d) ≡ d
+pub worth-glyph : (d : ℕ) → d < 10 → in_decimal (worth (glyph d)) ≡ Some d
 unfolding worth
 worth-glyph d h =
-    rw (lt-ltb d 10 h, le-ltb (0x30 + d) 0x30 (omega arith), le-leb (0x30 + d) 0x39 (omega arith)) (omega arith)
+    let e : 0x30 + d - 0x30 ≡ d = omega arith in
+    rw (lt-ltb d 10 h, le-ltb (0x30 + d) 0x30 (omega arith), le-leb (0x30 + d) 0x39 (omega arith), e, lt-ltb d 10 h)
 
 -- only the ten digits are worth less than 10
-digit-is : (b : ℕ) → worth b < 10 → b ≡ 0x30 + worth b
-unfolding worth
-digit-is b =
-    picked (λ (w : ℕ). w < 10 → b ≡ 0x30 + w) (ltb b 0x30) 16 _ (λ _ h. absurd (omega arith))
-    (λ f. picked (λ (w : ℕ). w < 10 → b ≡ 0x30 + w) (leb b 0x39) (b - 0x30) _ (λ t h. omega (arith, ltb-false b 0x30 f))
-    (λ g. picked (λ (w : ℕ). w < 10 → b ≡ 0x30 + w) (ltb b 0x41) 16 _ (λ _ h. absurd (omega arith))
-    (λ l. picked (λ (w : ℕ). w < 10 → b ≡ 0x30 + w) (leb b 0x46) (b - 0x37) 16 (λ _ h. absurd (omega (arith, ltb-false b 0x41 l))) (λ _ h. absurd (omega arith)))))
+abbrev Spelled : ℕ → ℕ → Option ℕ → Type 0
+Spelled b d o = o ≡ Some d → d < 10 → b ≡ 0x30 + d
 
-pub glyph-worth : (b : ℕ) → worth b < 10 → glyph (worth b) ≡ b
-glyph-worth b h = rw (lt-ltb (worth b) 10 h) (sym (digit-is b h))
+digit-is : (b : ℕ) {d : ℕ} → worth b ≡ Some d → d < 10 → b ≡ 0x30 + d
+unfolding worth
+digit-is b {d} =
+    picked (Spelled b d) (ltb b 0x30) None _ (λ _ q. let z : ◌≡◌ {A = ℕ} 0 1 = cc in absurd (omega arith))
+    (λ f. picked (Spelled b d) (leb b 0x39) (Some (b - 0x30)) _ (λ _ q h. let e : b - 0x30 ≡ d = cc in omega (arith, ltb-false b 0x30 f))
+    (λ _. picked (Spelled b d) (ltb b 0x41) None _ (λ _ q. let z : ◌≡◌ {A = ℕ} 0 1 = cc in absurd (omega arith))
+    (λ l. picked (Spelled b d) (leb b 0x46) (Some (b - 0x37)) None (λ _ q h. let e : b - 0x37 ≡ d = cc in absurd (omega (arith, ltb-false b 0x41 l))) (λ _ q. let z : ◌≡◌ {A = ℕ} 0 1 = cc in absurd (omega arith)))))
+
+pub glyph-worth : (b : ℕ) {d : ℕ} → in_decimal (worth b) ≡ Some d → glyph d ≡ b
+glyph-worth b {d} q = let w = decimal-digit (worth b) q in rw (lt-ltb d 10 w.1) (sym (digit-is b w.0 w.1))
 
 -- ---- a run of digits behind a number, and the number that all of them spell
 abbrev pub Spell : ℕ → List ℕ → ℕ → Type 0
 Spell m [] n = m ≡ n
-Spell m (b ∷ bs) n = (worth b < 10) × Spell (m * 10 + worth b) bs n
+Spell m (b ∷ bs) n = (d : ℕ) × (in_decimal (worth b) ≡ Some d) × Spell (m * 10 + d) bs n
 
-spell-more : (m : ℕ) (bs : List ℕ) (n b : ℕ) → Spell m bs n → worth b < 10 → Spell m (bs ++ (b ∷ [])) (n * 10 + worth b)
-spell-more m [] n b e h = (h, omega arith)
-spell-more m (a ∷ bs) n b (w, s) h = (w, spell-more (m * 10 + worth a) bs n b s h)
+spell-more : (m : ℕ) (bs : List ℕ) (n b : ℕ) {d : ℕ} → Spell m bs n → in_decimal (worth b) ≡ Some d → Spell m (bs ++ (b ∷ [])) (n * 10 + d)
+spell-more m [] n b {d} e w = (d, w, omega arith)
+spell-more m (a ∷ bs) n b (k, v, s) w = (k, v, spell-more (m * 10 + k) bs n b s w)
 
 -- ---- a number's own: the first is 0 only of 0
 pub record Digits (n : ℕ) : Type 0 where
   pub first : ℕ
   pub rest : List ℕ
+  pub value : ℕ
   pub are : decimal n ≡ first ∷ rest
-  pub digit : worth first < 10
-  pub lead : worth first ≡ 0 → n ≡ 0
-  pub spell : Spell (worth first) rest n
+  pub digit : in_decimal (worth first) ≡ Some value
+  pub lead : value ≡ 0 → n ≡ 0
+  pub spell : Spell value rest n
 
 one-digit : (n : ℕ) → n < 10 → Digits n
 one-digit n h =
-    let e = worth-glyph n h in
-    record { first = glyph n; rest = []; are = decimal-one n h; digit = omega (arith, e); lead = λ z. sym e ∙ z; spell = e }
+    record { first = glyph n; rest = []; value = n; are = decimal-one n h; digit = worth-glyph n h; lead = λ z. z; spell = refl }
 
 more-digits : (n : ℕ) → n < 2 ^ 64 → 10 ≤ n → Digits (n / 10) → Digits n
 more-digits n s h p =
@@ -62,10 +68,11 @@ more-digits n s h p =
     record {
       first = p.first;
       rest = p.rest ++ (glyph (n % 10) ∷ []);
+      value = p.value;
       are = decimal-more n s h ∙ ap (λ (l : List ℕ). l ++ (glyph (n % 10) ∷ [])) p.are;
       digit = p.digit;
       lead = λ z. absurd (omega (arith, p.lead z));
-      spell = rw (e, f) at (spell-more (worth p.first) p.rest (n / 10) (glyph (n % 10)) p.spell (omega (arith, e)));
+      spell = rw f at (spell-more p.value p.rest (n / 10) (glyph (n % 10)) p.spell e);
     }
 
 pub digits_of : (k n : ℕ) → n < 10 ^ suc k → n < 2 ^ 64 → Digits n

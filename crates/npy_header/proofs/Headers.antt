@@ -1,27 +1,29 @@
--- Laws of the header: how long it is, and what a turn of each loop over it leaves to do.
+-- Laws of the header: how long it is, what its padding leaves, and what a turn of the loop over its digits leaves to do.
 -- Assumes nothing.
-use mathlib.Core.Path.{◌≡◌, refl, sym, ap, ◌∙◌}
+use mathlib.Core.Path.{◌≡◌, refl, sym, ◌∙◌}
 use mathlib.Core.List.{List, [], ◌∷◌, append-nil}
 use Prim.Native.Nat.{ℕ, suc, ◌+◌, ◌-◌, ◌*◌, ◌^◌, ◌≤◌, ◌<◌}
 use native.Mathlib.Nat.{zero-add, pow-suc, pow-le-pow_right}
 use native.Mathlib.Numerals.{add-one}
 use native.Mathlib.Omega.{arith}
-use borrow.Author.Tests.{lt-ltb, le-ltb, eq-eqb, ne_eqb}
-use lib.ListN.{length, drop, get_or, set, length-append, drop_of_length-le}
-use lib.Seq.{sets, length-sets, drop-cons}
-use Rattle.answers.specs.declared.Written.{Written}
+use borrow.Author.Tests.{le-ltb, eq-eqb, ne_eqb}
+use lib.ListN.{length, set, length-append, drop_of_length-le}
+use lib.Seq.{sets}
+use Rattle.std.specs.Prelude.{Result, None, Some}
 use Rattle.answers.specs.Table.{answer, wholes}
 use Rattle.answers.specs.Listed.{written}
 use Rattle.answers.specs.Lent.{leaves, tab}
 use Rattle.answers.proofs.Lent.{length-tab}
-use Rattle.answers.proofs.Stored.{sets_over, sets_more, sets-tab}
+use Rattle.answers.proofs.Stored.{sets_over, sets_more}
 use Rattle.text.specs.Put.{Put}
 use Rattle.text.specs.Text.{decimal}
-use Rattle.text.specs.Numeral.{digit_at}
+use Rattle.text.specs.Numeral.{digit_at, in_decimal}
 use Rattle.text.proofs.Figures.{length-decimal}
+use Rattle.text.proofs.Line.{decimal-digit}
 use Rattle.text.proofs.Pieces.{put-long, put_whole}
-use Rattle.npy_header.specs.Header.{header_length, described, padding, header, max_size, number_from, size_in, break_of}
+use Rattle.npy_header.specs.Header.{header_length, described, padding, header, max_size, number_from, size_in}
 use Rattle.npy_header.specs.Rules.{header_written}
+use Rattle.answers.specs.declared.Refusal.{Refusal}
 
 -- ---- how long
 pub length-described : (n : ℕ) → length (described n) ≡ 67 + 2 * length (decimal n)
@@ -56,7 +58,7 @@ module _ {n : ℕ} {l : List ℕ} {r : ℕ} {m : List ℕ} (h : n ≤ max_size) 
 pub header-passes : (n room : ℕ) → n ≤ max_size → header_length ≤ room → header_written n room ≡ answer 0 (wholes (header_length ∷ []))
 header-passes n room h k = rw (le-ltb max_size n h, le-ltb room header_length k)
 
-pub header-over : (n : ℕ) → n ≤ max_size → (l : List ℕ) {m : List ℕ} → header_length ≤ length l → (r : Written) → written r ≡ header_written n (length l)
+pub header-over : (n : ℕ) → n ≤ max_size → (l : List ℕ) {m : List ℕ} → header_length ≤ length l → (r : Result ℕ Refusal) → written r ≡ header_written n (length l)
     → m ≡ leaves (written r) (header n) l → m ≡ sets l 0 (header n)
 header-over n h l k r e p =
     rw (e ∙ header-passes n (length l) h k) at p ∙ sym (sets_over (header n) l (rw (length-header n h) k))
@@ -68,36 +70,12 @@ header-filled n h l e =
     sets_over (header n) l (omega arith)
     ∙ rw (drop_of_length-le l {i = length (header n)} (omega arith)) (append-nil (header n))
 
--- ---- the loop that pads: spaces stand from `at` up to `next`
-pub record Padded (at : ℕ) (l₀ l : List ℕ) (next : ℕ) : Type 0 where
-  pub from : at ≤ next
-  pub within : next < header_length
-  pub is : l ≡ sets l₀ at (tab (next - at) (λ _. 0x20))
-
-module _ {at : ℕ} {l₀ : List ℕ} where
-  pub padded-none : at < header_length → Padded at l₀ l₀ at
-  padded-none h = let e : at - at ≡ 0 = omega arith in record { from = omega arith; within = h; is = rw e }
-
-  module _ {l : List ℕ} {next : ℕ} (p : Padded at l₀ l next) where
-    pub padded-long : length l ≡ length l₀
-    padded-long = ap length p.is ∙ length-sets l₀ at (tab (next - at) (λ _. 0x20))
-
-    pub padded-more : next < header_length - 1 → Padded at l₀ (set l next 0x20) (next + 1)
-    padded-more h =
-        let e : at + (next - at) ≡ next = omega (arith, p.from) in
-        let f : next - at + 1 ≡ next + 1 - at = omega (arith, p.from) in
-        record {
-          from = omega (arith, p.from);
-          within = omega arith;
-          is = rw p.is (rw (e, f) at (sets-tab l₀ at (next - at) (λ _. 0x20)));
-        }
-
-    -- and the newline
-    pub padded-done : header_length - 1 ≤ next → set l (header_length - 1) 0x0a ≡ sets l₀ at (padding at)
-    padded-done h =
-        let e : next ≡ header_length - 1 = omega (arith, p.within) in
-        let f : at + (header_length - 1 - at) ≡ header_length - 1 = omega (arith, p.from) in
-        rw (sets_more, length-tab (header_length - 1 - at) (λ _. 0x20), f, p.is, e)
+-- ---- the padding: spaces over the part before the last byte, and the newline behind them
+pub padded : (at : ℕ) (l : List ℕ) {m : List ℕ} → at < header_length → m ≡ sets l at (tab (127 - at) (λ _. 0x20))
+    → set m 127 0x0a ≡ sets l at (padding at)
+padded at l h e =
+    let f : at + (127 - at) ≡ 127 = omega arith in
+    rw (sets_more, length-tab (127 - at) (λ _. 0x20), f, e)
 
 -- ---- the loop that takes digits: what is left to take, behind n, spells the size
 pub record Sizing (file : List ℕ) (n i : ℕ) : Type 0 where
@@ -116,50 +94,21 @@ module _ {file : List ℕ} {n i : ℕ} (p : Sizing file n i) where
   one_left : i < 9 → 9 - i ≡ suc (9 - (i + 1))
   one_left h = omega arith
 
-  pub sizing-end : i < 9 → 9 < digit_at file (61 + i) → n ≡ size_in file
-  sizing-end h d = rw (one_left h, le-ltb (digit_at file (61 + i)) 10 d) at p.is
+  pub sizing-end : i < 9 → in_decimal (digit_at file (61 + i)) ≡ None → n ≡ size_in file
+  sizing-end h w = rw (one_left h, w) at p.is
 
-  pub sizing-zero : i < 9 → digit_at file (61 + i) ≤ 9 → n * 10 + digit_at file (61 + i) ≡ 0 → 0 ≡ size_in file
-  sizing-zero h d z =
-      rw (one_left h, lt-ltb (digit_at file (61 + i)) 10 (omega arith), eq-eqb (n * 10 + digit_at file (61 + i)) 0 z) at p.is
+  pub sizing-zero : i < 9 → {d : ℕ} → in_decimal (digit_at file (61 + i)) ≡ Some d → n * 10 + d ≡ 0 → 0 ≡ size_in file
+  sizing-zero h {d} w z = rw (one_left h, w, eq-eqb (n * 10 + d) 0 z) at p.is
 
-  pub sizing-more : i < 9 → digit_at file (61 + i) ≤ 9 → (n * 10 + digit_at file (61 + i) ≡ 0 → ⊥)
-      → Sizing file (n * 10 + digit_at file (61 + i)) (i + 1)
-  sizing-more h d z =
+  pub sizing-more : i < 9 → {d : ℕ} → in_decimal (digit_at file (61 + i)) ≡ Some d → (n * 10 + d ≡ 0 → ⊥)
+      → Sizing file (n * 10 + d) (i + 1)
+  sizing-more h {d} w z =
       let f : 61 + i + 1 ≡ 61 + (i + 1) = omega arith in
       record {
         within = omega arith;
-        fits = rw (add-one, pow-suc) (omega (arith, p.fits));
-        is = rw (one_left h, lt-ltb (digit_at file (61 + i)) 10 (omega arith), ne_eqb (n * 10 + digit_at file (61 + i)) 0 z, f) at p.is;
+        fits = rw (add-one, pow-suc) (omega (arith, p.fits, (decimal-digit (digit_at file (61 + i)) w).1));
+        is = rw (one_left h, w, ne_eqb (n * 10 + d) 0 z, f) at p.is;
       }
 
   pub sizing-done : 9 ≤ i → n ≡ size_in file
   sizing-done h = let e : 9 - i ≡ 0 = omega arith in rw e at p.is
-
--- ---- the loop that holds a file to a header: what is left of both breaks where all of them does
-pub record Held (header file : List ℕ) (i : ℕ) : Type 0 where
-  pub within : i ≤ length header
-  pub is : i + break_of (drop i header) (drop i file) ≡ break_of header file
-
-pub held_none : (header file : List ℕ) → Held header file 0
-held_none header file = record { within = omega arith; is = omega arith }
-
-module _ {header file : List ℕ} {i : ℕ} (p : Held header file i) where
-  pub held-short : i < length header → length file ≤ i → i ≡ break_of header file
-  held-short h k = omega (arith, rw (drop-cons header i 0 h, drop_of_length-le file k) at p.is)
-
-  pub held-differs : i < length header → i < length file → (get_or header i 0 ≡ get_or file i 0 → ⊥) → i ≡ break_of header file
-  held-differs h k d =
-      omega (arith, rw (drop-cons header i 0 h, drop-cons file i 0 k, ne_eqb (get_or header i 0) (get_or file i 0) d) at p.is)
-
-  pub held_more : i < length header → i < length file → get_or header i 0 ≡ get_or file i 0 → Held header file (i + 1)
-  held_more h k d =
-      record {
-        within = omega arith;
-        is =
-            rw add-one
-            (omega (arith, rw (drop-cons header i 0 h, drop-cons file i 0 k, eq-eqb (get_or header i 0) (get_or file i 0) d) at p.is));
-      }
-
-  pub held-done : length header ≤ i → i ≡ break_of header file
-  held-done h = omega (arith, rw (drop_of_length-le header h) at p.is)

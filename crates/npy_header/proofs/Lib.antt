@@ -1,3 +1,4 @@
+pub mod Filled
 pub mod Headers
 pub mod Digits
 pub mod Spelled

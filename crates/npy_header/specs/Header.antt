@@ -1,9 +1,9 @@
 -- Document 02, K8: the header of a .npy file of version 1.0, and where a file breaks it.
-use Rattle.std.specs.Prelude.{ℕ, zero, suc, ◌+◌, ◌-◌, ◌*◌, List, [], ◌∷◌, ◌++◌, eqb, ltb, length}
+use Rattle.std.specs.Prelude.{ℕ, zero, suc, ◌+◌, ◌-◌, ◌*◌, List, [], ◌∷◌, ◌++◌, eqb, length}
 use Rattle.answers.specs.Table.{pick}
 use Rattle.answers.specs.Lent.{tab}
 use Rattle.text.specs.Text.{ascii, newline, named}
-use Rattle.text.specs.Numeral.{digit_at}
+use Rattle.text.specs.Numeral.{digit_at, in_decimal, with_digit}
 
 -- the body starts behind so many bytes
 abbrev pub header_length : ℕ
@@ -37,8 +37,8 @@ max_size = 999999999
 abbrev pub number_from : ℕ → ℕ → List ℕ → ℕ → ℕ
 number_from zero n file at = n
 number_from (suc left) n file at =
-    pick (ltb (digit_at file at) 10)
-    (pick (eqb (n * 10 + digit_at file at) 0) 0 (number_from left (n * 10 + digit_at file at) file (at + 1)))
+    with_digit (in_decimal (digit_at file at))
+    (λ digit. pick (eqb (n * 10 + digit) 0) 0 (number_from left (n * 10 + digit) file (at + 1)))
     n
 
 -- the N of a file, by the first number of its header

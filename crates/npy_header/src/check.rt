@@ -5,8 +5,9 @@ ghost use Rattle.npy_header.specs.Header.{header_length, max_size, size_in, brea
 ghost use Rattle.npy_header.specs.Rules.{header_rule};
 
 use crate::header::{HEADER_LENGTH, put_header};
-use answers::{Check, Refusal};
-use text::numeral::digit_at;
+use answers::Refusal;
+use text::numeral::decimal_digit_at;
+use text::room::room_of;
 
 // Where the first number stands.
 const SIZE_AT: usize = 61;
@@ -16,17 +17,14 @@ pub fn size_in(file: &[u8]) -> u64
     ensures { (result ≡ size_in file.now) × (result ≤ max_size) }
 {
     let mut n: u64 = 0;
-    let mut i: usize = 0;
-    while i < 9 {
-        let digit = digit_at(file, SIZE_AT + i);
-        if 9 < digit {
+    for i in 0..9 {
+        let Some(digit) = decimal_digit_at(file, SIZE_AT + i) else {
             return n;
-        }
+        };
         n = n * 10 + digit;
         if n == 0 {
             return 0;
         }
-        i += 1;
     }
     n
 }
@@ -35,42 +33,25 @@ pub fn size_in(file: &[u8]) -> u64
 fn first_break(header: &[u8], file: &[u8]) -> usize
     ensures { result ≡ break_of header.now file.now }
 {
-    let mut i: usize = 0;
-    while i < header.len() {
-        if file.len() <= i {
-            return i;
-        }
-        if header[i] != file[i] {
-            return i;
-        }
-        i += 1;
-    }
-    i
-}
-
-// The array comes from a call: the check would count the elements of one that is made where it is used.
-fn room_for_header() -> [u8; HEADER_LENGTH]
-    ensures { header_length ≡ length result }
-{
-    [0; HEADER_LENGTH]
+    header.iter().zip(file).take_while(|(h, b)| h == b).count()
 }
 
 // The file is held to the header of its own N.
 fn break_in(file: &[u8]) -> usize
     ensures { result ≡ break_in file.now }
 {
-    let mut header = room_for_header();
+    let mut header: [u8; HEADER_LENGTH] = room_of(0);
     put_header(size_in(file), &mut header);
     first_break(&header, file)
 }
 
 // The header, by its first break.
-pub fn check_header(file: &[u8]) -> Check
+pub fn check_header(file: &[u8]) -> Result<(), Refusal>
     ensures { checked result ≡ header_rule file.now }
 {
     let offset = break_in(file);
     if offset < HEADER_LENGTH {
-        return Check::Refused(Refusal::MalformedHeader { offset });
+        return Err(Refusal::MalformedHeader { offset });
     }
-    Check::Passes
+    Ok(())
 }

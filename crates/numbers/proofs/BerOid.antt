@@ -1,6 +1,6 @@
 -- BER-OID: what is written is read back, whatever follows; the bytes are the fewest; and what the loops go by.
 -- Assumes nothing.
-use mathlib.Core.Path.{◌≡◌, refl, sym, ◌∙◌}
+use mathlib.Core.Path.{◌≡◌, refl, sym, ap, ◌∙◌}
 use mathlib.Core.Bool.{true, ◌&&◌, and-eq-true_iff}
 use mathlib.Core.List.{List, [], ◌∷◌, ◌++◌}
 use Prim.Native.Nat.{ℕ, zero, suc, ◌+◌, ◌-◌, ◌/◌, ◌%◌, ◌^◌, ◌≤◌, ◌<◌}
@@ -12,11 +12,12 @@ use lib.ListN.{length, drop, set, get_or, length-append}
 use lib.Seq.{drop-cons, append_snoc, take_at}
 use borrow.Author.Rules.{rules}
 use borrow.Author.Tests.{ltb-true, ltb-false, leb-true, le-leb, lt-leb, lt-ltb}
+use Rattle.std.specs.Prelude.{Option, None}
 use Rattle.answers.specs.Lent.{over}
 use Rattle.answers.proofs.Rules.{picked}
-use Rattle.numbers.specs.declared.ber_oid.BerOid.TheVariants.{Read, Unreadable}
 use Rattle.numbers.specs.Digits.{spelt, digits}
-use Rattle.numbers.specs.BerOid.{continued, oid_value, oid_read, oid_read_strict, oid_length, oid_bytes}
+use Rattle.numbers.specs.declared.ber_oid.BerOid.{BerOid}
+use Rattle.numbers.specs.BerOid.{oid, continued, oid_value, oid_read, oid_read_strict, oid_length, oid_bytes}
 use Rattle.numbers.proofs.Digits.{drop-set, length_digits, spelt-append, spelt-digits}
 
 -- after i bytes with the top bit set, one more, or the last
@@ -29,7 +30,7 @@ module _ (l : List ℕ) (i : ℕ) (h : i < length l) (e : continued l ≡ i + co
 
 -- a number at the front of the bytes
 pub read_is : (bytes : List ℕ) {k : ℕ} → suc (continued bytes) ≡ k → k ≤ 6 → k ≤ length bytes → oid_value k bytes < 2 ^ 32
-    → oid_read bytes ≡ Read (oid_value k bytes) k
+    → oid_read bytes ≡ oid (oid_value k bytes) k
 unfolding oid_read
 read_is bytes {k} e a b h = rw (e, le-leb k 6 a, le-leb k (length bytes) b, lt-ltb (oid_value k bytes) (2 ^ 32) h)
 
@@ -43,34 +44,41 @@ passed bytes k t =
 
 -- no number there
 pub none_is : (bytes : List ℕ) → (suc (continued bytes) ≤ 6 → continued bytes < length bytes → oid_value (suc (continued bytes)) bytes < 2 ^ 32 → ⊥)
-    → oid_read bytes ≡ Unreadable
+    → oid_read bytes ≡ None
 unfolding oid_read
 none_is bytes never =
-    picked (λ r. r ≡ Unreadable) _ _ _ (λ t. let p = passed bytes (suc (continued bytes)) t in absurd (never p.0 p.1 p.2)) (λ _. refl)
+    picked (λ (r : Option BerOid). r ≡ None) _ _ _ (λ t. let p = passed bytes (suc (continued bytes)) t in absurd (never p.0 p.1 p.2)) (λ _. refl)
 
-not-read : {v k : ℕ} → Read v k ≡ Unreadable → ⊥
+-- one number that was read is another where they are the same value in as many bytes
+oid-one : {v k w j : ℕ} → oid v k ≡ oid w j → (v ≡ w) × (k ≡ j)
+oid-one {v} {k} {w} {j} e =
+    let r : ◌≡◌ {A = BerOid} (record { value = v; taken = k }) (record { value = w; taken = j }) = cc in
+    (ap (λ (o : BerOid). o.value) r, ap (λ (o : BerOid). o.taken) r)
+
+not-read : {v k : ℕ} → oid v k ≡ None → ⊥
 not-read e = let z : ◌≡◌ {A = ℕ} 0 1 = cc in omega arith
 
 -- what a number that was read tells
-pub read-tells : (bytes : List ℕ) {v k : ℕ} → Read v k ≡ oid_read bytes
+pub read-tells : (bytes : List ℕ) {v k : ℕ} → oid v k ≡ oid_read bytes
     → (k ≡ suc (continued bytes)) × (v ≡ oid_value k bytes) × (k ≤ length bytes)
 unfolding oid_read
 read-tells bytes {v} {k} =
-    picked (λ r. Read v k ≡ r → (k ≡ suc (continued bytes)) × (v ≡ oid_value k bytes) × (k ≤ length bytes)) _ _ _
+    picked (λ (r : Option BerOid). oid v k ≡ r → (k ≡ suc (continued bytes)) × (v ≡ oid_value k bytes) × (k ≤ length bytes)) _ _ _
     (λ t e.
-    let h : k ≡ suc (continued bytes) = cc in
-    (h, (cc), rw h (passed bytes (suc (continued bytes)) t).1))
+    let p : (v ≡ oid_value (suc (continued bytes)) bytes) × (k ≡ suc (continued bytes)) = oid-one e in
+    let h = p.1 in
+    (h, rw h p.0, rw h (passed bytes (suc (continued bytes)) t).1))
     (λ _ e. absurd (not-read e))
 
 -- what is read strictly is read
-pub strict-tells : (bytes : List ℕ) {v k : ℕ} → Read v k ≡ oid_read_strict bytes → Read v k ≡ oid_read bytes
+pub strict-tells : (bytes : List ℕ) {v k : ℕ} → oid v k ≡ oid_read_strict bytes → oid v k ≡ oid_read bytes
 unfolding oid_read_strict
 strict-tells bytes {v} {k} =
-    picked (λ r. Read v k ≡ r → Read v k ≡ oid_read bytes) (eqb (get_or bytes 0 0) 128) Unreadable (oid_read bytes)
+    picked (λ (r : Option BerOid). oid v k ≡ r → oid v k ≡ oid_read bytes) (eqb (get_or bytes 0 0) 128) None (oid_read bytes)
     (λ _ e. absurd (not-read e)) (λ _ e. e)
 
 -- it takes a byte at least, and no more than there are
-pub oid-within : (bytes : List ℕ) {v k : ℕ} → Read v k ≡ oid_read_strict bytes → (1 ≤ k) × (k ≤ length bytes)
+pub oid-within : (bytes : List ℕ) {v k : ℕ} → oid v k ≡ oid_read_strict bytes → (1 ≤ k) × (k ≤ length bytes)
 oid-within bytes e = let p = read-tells bytes (strict-tells bytes e) in (omega (arith, p.0), p.2)
 
 continued-digits : (j n : ℕ) (l : List ℕ) → continued (digits 128 1 j n ++ l) ≡ j + continued l
@@ -132,7 +140,7 @@ module _ (v : ℕ) (small : v < 2 ^ 32) where
       rw (spelt-append, spelt-digits 128 (omega arith) 0 1 (oid_length v - 1) (v / 128), mod-eq_of_lt high) (omega arith)
 
   -- what is written is read, whatever follows
-  pub round_trip : (rest : List ℕ) → oid_read (oid_bytes v ++ rest) ≡ Read v (oid_length v)
+  pub round_trip : (rest : List ℕ) → oid_read (oid_bytes v ++ rest) ≡ oid v (oid_length v)
   round_trip rest =
       let value : oid_value (oid_length v) (oid_bytes v ++ rest) ≡ v = rw (take_at (oid_bytes v) rest (oid_length v) length-oid) spelt-oid in
       rw value at
@@ -142,35 +150,35 @@ module _ (v : ℕ) (small : v < 2 ^ 32) where
 abbrev Two : List ℕ
 Two = 0x80 ∷ 0x80 ∷ 0x80 ∷ 0x80 ∷ 0x80 ∷ 0x02 ∷ []
 
-six-bytes : oid_read Two ≡ Read 2 6
+six-bytes : oid_read Two ≡ oid 2 6
 unfolding oid_read
 six-bytes = refl
 
-seven-bytes : oid_read (0x80 ∷ Two) ≡ Unreadable
+seven-bytes : oid_read (0x80 ∷ Two) ≡ None
 unfolding oid_read
 seven-bytes = refl
 
-too_large : oid_read (0x90 ∷ 0x80 ∷ 0x80 ∷ 0x80 ∷ 0x00 ∷ []) ≡ Unreadable
+too_large : oid_read (0x90 ∷ 0x80 ∷ 0x80 ∷ 0x80 ∷ 0x00 ∷ []) ≡ None
 unfolding oid_read
 too_large = refl
 
-no_byte : oid_read [] ≡ Unreadable
+no_byte : oid_read [] ≡ None
 unfolding oid_read
 no_byte = refl
 
-largest : oid_read (0x8f ∷ 0xff ∷ 0xff ∷ 0xff ∷ 0x7f ∷ []) ≡ Read 4294967295 5
+largest : oid_read (0x8f ∷ 0xff ∷ 0xff ∷ 0xff ∷ 0x7f ∷ []) ≡ oid 4294967295 5
 unfolding oid_read
 largest = refl
 
 -- ---- read strictly
-strict-first : oid_read_strict (0x80 ∷ 0x01 ∷ []) ≡ Unreadable
+strict-first : oid_read_strict (0x80 ∷ 0x01 ∷ []) ≡ None
 unfolding oid_read_strict
 strict-first = refl
 
-first_read : oid_read (0x80 ∷ 0x01 ∷ []) ≡ Read 1 2
+first_read : oid_read (0x80 ∷ 0x01 ∷ []) ≡ oid 1 2
 unfolding oid_read
 first_read = refl
 
-strict-two : oid_read_strict (0x81 ∷ 0x00 ∷ []) ≡ Read 128 2
+strict-two : oid_read_strict (0x81 ∷ 0x00 ∷ []) ≡ oid 128 2
 unfolding oid_read_strict oid_read
 strict-two = refl

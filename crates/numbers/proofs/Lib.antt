@@ -13,3 +13,4 @@ pub mod Widen
 pub mod Exact
 pub mod WholePart
 pub mod OneAnswer
+pub mod Read

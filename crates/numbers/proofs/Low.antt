@@ -6,8 +6,7 @@ use Prim.Native.Nat.{ℕ, zero, suc, ◌*◌, ◌+◌, ◌/◌, ◌%◌, ◌^◌
 use native.Mathlib.Nat.{pow-zero, pow-suc, pow-succ', pow-le-pow_right, mod-eq_of_lt, mod-lt, mod-one, div-one, div-div-eq-div-mul, le_trans, one-le-pow}
 use native.Mathlib.Omega.{arith}
 use lib.Arith.{mod-mul}
-use lib.ListN.{length, drop, get_or}
-use lib.Seq.{drop-cons}
+use lib.ListN.{length, get_or}
 use Rattle.numbers.specs.Words.{low_spelt, low_word_of, low_bytes_of}
 use Rattle.numbers.specs.Digits.{Below}
 
@@ -23,10 +22,6 @@ low-at (suc k) n (suc i) h = rw (pow-succ', ← div-div-eq-div-mul) (low-at k (n
 
 pub low-left : (n i : ℕ) → n / 256 ^ (i + 1) ≡ n / 256 ^ i / 256
 low-left n i = let e : i + 1 ≡ suc i = omega arith in rw (e, pow-suc, ← div-div-eq-div-mul)
-
--- one byte more is read, before those behind it
-pub low-more : (l : List ℕ) (i : ℕ) → i < length l → low_spelt (drop i l) ≡ get_or l i 0 % 256 + 256 * low_spelt (drop (i + 1) l)
-low-more l i h = let e : i + 1 ≡ suc i = omega arith in rw (e, drop-cons l i 0 h)
 
 spelt-low : (k n : ℕ) → low_spelt (low_bytes_of k n) ≡ n % 256 ^ k
 spelt-low zero n = rw (pow-zero, mod-one)

@@ -18,6 +18,7 @@ use Rattle.numbers.proofs.ber.read_ber_strict.Reads as read-ber-strict
 use Rattle.numbers.proofs.conversions.nearest_binary64.Reads as nearest-binary64
 use Rattle.numbers.proofs.conversions.binary64_to_binary32.Reads as binary64-to-binary32
 use Rattle.numbers.proofs.conversions.binary32_to_binary64.Reads as binary32-to-binary64
+use Rattle.numbers.proofs.conversions.bits_of.Reads as bits-of
 use Rattle.numbers.proofs.conversions.whole_part.Reads as whole_part
 
 pub read-be-one : OneResult read-be.Learnt
@@ -58,6 +59,9 @@ binary64-to-binary32-one κs a r r' s s' p q = p ∙ sym q
 
 pub binary32-to-binary64-one : OneResult binary32-to-binary64.Learnt
 binary32-to-binary64-one κs a r r' s s' p q = p ∙ sym q
+
+pub bits-of-one : OneResult bits-of.Learnt
+bits-of-one κs a r r' s s' p q = p ∙ sym q
 
 pub whole-part-one : OneResult whole_part.Learnt
 whole-part-one κs a r r' s s' p q = p ∙ sym q

@@ -1,11 +1,9 @@
 -- Conversions on bit patterns, by the logic's account of IEEE 754 and document 01's rule for NaN.
-use Rattle.std.specs.Prelude.{ℕ, ◌+◌, ◌*◌, ◌/◌, ◌%◌, ◌^◌, ◌<◌, Bool, false, ◌&&◌, cond, pos, leb, Float}
+use Rattle.std.specs.Prelude.{ℕ, ◌+◌, ◌*◌, ◌/◌, ◌%◌, ◌^◌, ◌<◌, Bool, false, ◌&&◌, cond, pos, leb, Float, None, Some, Option}
 use Rattle.std.specs.Float.{nan, inf, fin, Format, binary64}
 use Rattle.std.specs.Float.Ieee.{hid, ones, top, up, down, round, of_int, of_bits, to_bits, nan_bits, to_unsigned, le, lt}
 use Rattle.std.specs.Float.Ieee.Exact.{HasValue}
 use Rattle.answers.specs.Table.{pick}
-use Rattle.numbers.specs.declared.conversions.WholePart.{WholePart}
-use Rattle.numbers.specs.declared.conversions.WholePart.TheVariants.{Whole, Nothing}
 
 -- the value of the format nearest to x, a tie to the even one
 unfoldable pub nearest : Format → Float → Float
@@ -32,10 +30,10 @@ unfoldable pub nearest_bits : ℕ → ℕ
 nearest_bits n = to_bits binary64 (of_int binary64 (pos n))
 
 -- the whole part of a number from 0 to below 2^64; of any other, and of NaN, none
-unfoldable pub whole_part : ℕ → WholePart
+unfoldable pub whole_part : ℕ → Option ℕ
 whole_part b =
     let x = of_bits binary64 b in
-    pick (le (fin false 0 (pos 0)) x && lt x (fin false 1 (pos 64))) (Whole (to_unsigned 64 x)) Nothing
+    pick (le (fin false 0 (pos 0)) x && lt x (fin false 1 (pos 64))) (Some (to_unsigned 64 x)) None
 
 -- x and y are one number, size / over, with one sign
 pub record SameNumber (x y : Float) : Type 0 where

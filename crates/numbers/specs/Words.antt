@@ -25,3 +25,8 @@ low_word_of bytes = low_spelt bytes % 2 ^ 64
 abbrev pub low_bytes_of : ℕ → ℕ → List ℕ
 low_bytes_of zero n = []
 low_bytes_of (suc k) n = n % 256 ∷ low_bytes_of k (n / 256)
+
+-- ---- both
+-- one byte more behind those that n spells, in 64 bits
+abbrev pub more : ℕ → ℕ → ℕ
+more n b = (n * 256 + b % 256) % 2 ^ 64

@@ -4,51 +4,49 @@ ghost use Rattle.answers.specs.Listed.{written};
 ghost use Rattle.answers.specs.Lent.{leaves};
 ghost use Rattle.numbers.specs.BerOid.{oid_length, oid_bytes, oid_read, oid_read_strict, oid_written};
 
-use answers::{Refusal, Written};
+use answers::Refusal;
 
-// A number and how many bytes it took, or none.
-#[derive(Clone, Copy)]
-pub enum BerOid {
-    Read { value: u32, taken: usize },
-    Unreadable,
+// A number, and how many bytes it took.
+#[derive(Clone, Copy, Debug, PartialEq, Eq)]
+pub struct BerOid {
+    pub value: u32,
+    pub taken: usize,
 }
 
-// The number at the front of the bytes.
-pub fn read_ber_oid(bytes: &[u8]) -> BerOid
+// The number at the front of the bytes, or none.
+pub fn read_ber_oid(bytes: &[u8]) -> Option<BerOid>
     ensures { result ≡ oid_read bytes.now }
 {
     let mut value: u64 = 0;
-    let mut taken: usize = 0;
-    while taken < bytes.len() {
-        let b = crate::wide(bytes[taken]);
-        taken += 1;
+    for (i, &byte) in bytes.iter().enumerate() {
+        let b = crate::wide(byte);
         value = value * 128 + b % 128;
         if 0xffff_ffff < value {
-            return BerOid::Unreadable;
+            return None;
         }
         if b < 128 {
-            return BerOid::Read {
+            return Some(BerOid {
                 value: value as u32,
-                taken,
-            };
+                taken: i + 1,
+            });
         }
         // five bytes may say that more follow, and no sixth
-        if 5 < taken {
-            return BerOid::Unreadable;
+        if 5 <= i {
+            return None;
         }
     }
-    BerOid::Unreadable
+    None
 }
 
 // The number at the front of the bytes, where they do not start with a 0 that nothing needs.
-pub fn read_ber_oid_strict(bytes: &[u8]) -> BerOid
+pub fn read_ber_oid_strict(bytes: &[u8]) -> Option<BerOid>
     ensures { result ≡ oid_read_strict bytes.now }
 {
     if bytes.len() == 0 {
-        return BerOid::Unreadable;
+        return None;
     }
     if bytes[0] == 0x80 {
-        return BerOid::Unreadable;
+        return None;
     }
     read_ber_oid(bytes)
 }
@@ -71,24 +69,23 @@ pub fn ber_oid_len(value: u32) -> usize
 }
 
 // The value into the front of `out`, in the fewest bytes.
-pub fn write_ber_oid(value: u32, out: &mut [u8]) -> Written
+pub fn write_ber_oid(value: u32, out: &mut [u8]) -> Result<usize, Refusal>
     ensures { (written result ≡ oid_written value (length out.old))
         × (out.new ≡ leaves (written result) (oid_bytes value) out.old) }
 {
     let needed = ber_oid_len(value);
     if out.len() < needed {
-        return Written::Refused(Refusal::BufferTooSmall {
+        return Err(Refusal::BufferTooSmall {
             needed,
             got: out.len(),
         });
     }
-    let mut i = needed - 1;
-    out[i] = (value % 128) as u8;
+    let last = needed - 1;
+    out[last] = (value % 128) as u8;
     let mut left = value / 128;
-    while 0 < i {
-        i -= 1;
+    for i in (0..last).rev() {
         out[i] = (128 + left % 128) as u8;
         left = left / 128;
     }
-    Written::Done(needed)
+    Ok(needed)
 }

@@ -1,15 +1,9 @@
 //! Conversions between binary32, binary64 and whole numbers, on bit patterns.
 ghost use Rattle.std.specs.Prelude.{◌≡◌, ◌≤◌, ◌<◌, ◌^◌};
 ghost use Rattle.std.specs.Float.{binary32, binary64};
+ghost use Rattle.std.specs.Float.Ieee.{to_bits};
 ghost use Rattle.std.specs.Float.Ieee.Nearest.{closest};
 ghost use Rattle.numbers.specs.Conversions.{converted, nearest_bits, whole_part};
-
-// The whole part of a number, or nothing where the number is below 0, from 2^64 on or not finite.
-#[derive(Clone, Copy)]
-pub enum WholePart {
-    Whole(u64),
-    Nothing,
-}
 
 // 2^c
 fn power(c: u64) -> u64
@@ -120,25 +114,36 @@ pub fn binary32_to_binary64(bits: u32) -> u64
     }
 }
 
+// The bits of a number. The language's one NaN has none of its own.
+pub fn bits_of(number: f64) -> u64
+    ensures { result ≡ to_bits binary64 number }
+{
+    if number != number {
+        0x7ff8_0000_0000_0000
+    } else {
+        f64::to_bits(number)
+    }
+}
+
 // The whole part of the binary64 whose bits these are.
-pub fn whole_part(bits: u64) -> WholePart
+pub fn whole_part(bits: u64) -> Option<u64>
     ensures { result ≡ whole_part bits }
 {
     // of the numbers with a sign -0 alone is not below 0
     if 0x8000_0000_0000_0000 < bits {
-        return WholePart::Nothing;
+        return None;
     }
     let field = bits % 0x8000_0000_0000_0000 / 0x10_0000_0000_0000;
     if 1087 <= field {
-        return WholePart::Nothing;
+        return None;
     }
     if field < 1023 {
-        return WholePart::Whole(0);
+        return Some(0);
     }
     let whole = 0x10_0000_0000_0000 + bits % 0x10_0000_0000_0000;
     if field < 1075 {
-        WholePart::Whole(whole >> (1075 - field))
+        Some(whole >> (1075 - field))
     } else {
-        WholePart::Whole(whole << (field - 1075))
+        Some(whole << (field - 1075))
     }
 }

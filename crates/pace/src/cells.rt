@@ -1,23 +1,14 @@
 //! Every cell of the matrix, looked up by its row and column.
 use crate::figure;
 use layout::pack::SdccFlp;
-use matrix::lookup::{Cell, correlation};
-
-fn word(cell: Cell) -> u64 {
-    match cell {
-        Cell::Number(bits) => bits,
-        Cell::Refused(_) => figure::REFUSED,
-    }
-}
+use matrix::lookup::correlation;
 
 // The figure with the cells of row i.
 fn of_row(from: u64, pack: SdccFlp, deviations: &[u64], correlations: &[u64], i: usize) -> u64 {
     let mut figure = from;
-    let mut j: usize = 0;
-    while j < deviations.len() {
+    for j in 0..deviations.len() {
         let cell = correlation(pack, deviations, correlations, i as u64, j as u64);
-        figure = figure::add(figure, word(cell));
-        j += 1;
+        figure = figure::add(figure, cell.unwrap_or(figure::REFUSED));
     }
     figure
 }
@@ -30,10 +21,8 @@ pub(crate) fn of_matrix(deviations: &[u64], correlations: &[u64]) -> u64 {
         slots: correlations.len(),
     };
     let mut figure: u64 = 0;
-    let mut i: usize = 0;
-    while i < deviations.len() {
+    for i in 0..deviations.len() {
         figure = of_row(figure, pack, deviations, correlations, i);
-        i += 1;
     }
     figure
 }

@@ -9,12 +9,10 @@ use text::part::within;
 pub(crate) fn of_values(correlations: &[u64], clen: usize, out: &mut [u8]) -> u64 {
     let mut figure: u64 = 0;
     let mut at: usize = 0;
-    let mut k: usize = 0;
-    while k < correlations.len() {
-        let written = encode_imapb(clen, correlations[k], &mut out[at..]);
+    for &correlation in correlations {
+        let written = encode_imapb(clen, correlation, &mut out[at..]);
         figure = figure::add(figure, figure::of_written(written));
         at = within(wrapping_add_usize(at, clen), out);
-        k += 1;
     }
     figure
 }
@@ -35,16 +33,14 @@ fn special(k: usize) -> ImapbSpecial {
     }
 }
 
-// A special code for each of so many slots.
+// A special code for each of so many slots. Not one loop with `of_values`: its closure would look up each correlation.
 pub(crate) fn of_specials(slots: usize, clen: usize, out: &mut [u8]) -> u64 {
     let mut figure: u64 = 0;
     let mut at: usize = 0;
-    let mut k: usize = 0;
-    while k < slots {
+    for k in 0..slots {
         let written = encode_imapb_special(special(k), clen, &mut out[at..]);
         figure = figure::add(figure, figure::of_written(written));
         at = within(wrapping_add_usize(at, clen), out);
-        k += 1;
     }
     figure
 }

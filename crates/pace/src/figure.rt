@@ -1,24 +1,18 @@
 //! The figure: a number that depends on everything that was made, so that no compiler can leave any of it out.
-use answers::Written;
-use reader::read::ReadAnswer;
+use answers::Refusal;
+use layout::pack::SdccFlp;
 
 // What a refusal adds.
 pub(crate) const REFUSED: u64 = u64::MAX;
 
 // The word of what a writer answers: how many bytes it wrote.
-pub(crate) fn of_written(written: Written) -> u64 {
-    match written {
-        Written::Done(length) => length as u64,
-        Written::Refused(_) => REFUSED,
-    }
+pub(crate) fn of_written(written: Result<usize, Refusal>) -> u64 {
+    written.map_or(REFUSED, |length| length as u64)
 }
 
 // The word of what a reader answers: how many slots it stored.
-pub(crate) fn of_read(read: ReadAnswer) -> u64 {
-    match read {
-        ReadAnswer::Done(matrix) => matrix.slots as u64,
-        ReadAnswer::Refused(_) => REFUSED,
-    }
+pub(crate) fn of_read(read: Result<SdccFlp, Refusal>) -> u64 {
+    read.map_or(REFUSED, |matrix| matrix.slots as u64)
 }
 
 // One word more.
@@ -33,13 +27,7 @@ pub(crate) fn add_byte(figure: u64, byte: u8) -> u64 {
 
 // Every word.
 pub(crate) fn of_words(from: u64, words: &[u64]) -> u64 {
-    let mut figure = from;
-    let mut i: usize = 0;
-    while i < words.len() {
-        figure = add(figure, words[i]);
-        i += 1;
-    }
-    figure
+    words.iter().fold(from, |figure, &word| add(figure, word))
 }
 
 // What the Rust keeps of a state: whether the slot is present.
@@ -49,22 +37,14 @@ fn bool_of(state: u8) -> u64 {
 
 // Every state, as the Rust has it.
 pub(crate) fn of_states(from: u64, states: &[u8]) -> u64 {
-    let mut figure = from;
-    let mut i: usize = 0;
-    while i < states.len() {
-        figure = add(figure, bool_of(states[i]));
-        i += 1;
-    }
-    figure
+    states
+        .iter()
+        .fold(from, |figure, &state| add(figure, bool_of(state)))
 }
 
 // Every byte.
 pub(crate) fn of_bytes(from: u64, bytes: &[u8]) -> u64 {
-    let mut figure = from;
-    let mut i: usize = 0;
-    while i < bytes.len() {
-        figure = add_byte(figure, bytes[i]);
-        i += 1;
-    }
-    figure
+    bytes
+        .iter()
+        .fold(from, |figure, &byte| add_byte(figure, byte))
 }

@@ -1,7 +1,7 @@
 //! The arguments: what is done, on which matrix, and how often.
 use std::env::FillError;
 use std::rt::Env;
-use text::numeral::{Numeral, decimal};
+use text::numeral::decimal;
 
 // Each does the first six in turn. Idle does nothing, so that what the repetitions themselves cost can be taken off.
 #[derive(Clone, Copy)]
@@ -41,10 +41,7 @@ fn number<E: Env>(env: &E, i: usize) -> usize {
     let Ok(count) = env.arg(i, &mut text) else {
         return 0;
     };
-    match decimal(&text[..count], 0) {
-        Numeral::Read { value, next: _ } => value as usize,
-        Numeral::Malformed => 0,
-    }
+    decimal(&text[..count], 0).map_or(0, |number| number.value as usize)
 }
 
 // The first letters of an argument that is a word.

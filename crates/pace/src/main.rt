@@ -14,7 +14,8 @@ use job::{Job, Kind, Op};
 use layout::pack::SdccFlp;
 use layout::triangle::corr_slots;
 use std::io;
-use text::part::{within, within_words};
+use text::part::within;
+use text::room::room_of;
 
 // The largest matrix.
 const ROWS: usize = SdccFlp::MAX_ROWS as usize;
@@ -86,32 +87,15 @@ fn run(
     println!(rt; "pack {length} figure {figure}")
 }
 
-// The arrays come from calls: the check would count the elements of one that `main` makes itself.
-fn room_for_deviations() -> [u64; ROWS] {
-    [0; ROWS]
-}
-
-fn room_for_correlations() -> [u64; SLOTS] {
-    [0; SLOTS]
-}
-
-fn room_for_states() -> [u8; SLOTS] {
-    [0; SLOTS]
-}
-
-fn room_for_pack() -> [u8; BYTES] {
-    [0; BYTES]
-}
-
 fn main(rt: HostRuntime) -> io::Result<()> {
-    let mut deviations = room_for_deviations();
-    let mut correlations = room_for_correlations();
-    let mut states = room_for_states();
-    let mut pack = room_for_pack();
+    let mut deviations: [u64; ROWS] = room_of(0);
+    let mut correlations: [u64; SLOTS] = room_of(0);
+    let mut states: [u8; SLOTS] = room_of(0);
+    let mut pack: [u8; BYTES] = room_of(0);
     let job = job::asked(&rt);
-    let rows = within_words(job.rows, &deviations);
+    let rows = within(job.rows, &deviations);
     let slots = corr_slots(rows as u32) as usize;
-    let sent = within_words(slots, &correlations);
+    let sent = within(slots, &correlations);
     let told = within(slots, &states);
     run(
         &rt,

@@ -37,10 +37,8 @@ fn over_1000_5(size: u64) -> u64 {
 }
 
 pub(crate) fn fill_deviations(deviations: &mut [u64]) {
-    let mut i: usize = 0;
-    while i < deviations.len() {
-        deviations[i] = deviation(i);
-        i += 1;
+    for (i, bits) in deviations.iter_mut().enumerate() {
+        *bits = deviation(i);
     }
 }
 
@@ -55,9 +53,7 @@ fn slot(k: usize, kind: Kind) -> u64 {
 }
 
 pub(crate) fn fill_correlations(correlations: &mut [u64], kind: Kind) {
-    let mut k: usize = 0;
-    while k < correlations.len() {
-        correlations[k] = slot(k, kind);
-        k += 1;
+    for (k, bits) in correlations.iter_mut().enumerate() {
+        *bits = slot(k, kind);
     }
 }

@@ -2,7 +2,7 @@
 use crate::figure::REFUSED;
 use crate::job::{Job, Op};
 use crate::{cells, coded, figure};
-use layout::size::{Peek, peek_matrix_size};
+use layout::size::peek_matrix_size;
 use npy::import::import_npy;
 use npy_export::export::export_npy;
 use reader::read::decode_sdcc_flp;
@@ -35,10 +35,7 @@ pub(crate) fn write(deviations: &[u64], correlations: &[u64], clen: usize, pack:
 }
 
 fn peek(pack: &[u8]) -> u64 {
-    match peek_matrix_size(pack) {
-        Peek::Size(n) => n as u64,
-        Peek::Nothing => REFUSED,
-    }
+    peek_matrix_size(pack).map_or(REFUSED, |n| n as u64)
 }
 
 pub(crate) fn to_npy(deviations: &[u64], correlations: &[u64], file: &mut [u8]) -> u64 {
@@ -96,21 +93,17 @@ fn once(
     }
 }
 
-// A word at a place that goes on with each repetition, and 0 where there is none.
-fn word_at(words: &[u64], turn: usize) -> u64 {
-    if words.len() == 0 {
-        return 0;
+// The entry at a place that goes on with each repetition, or `none` where there is none.
+fn entry_at<T: Copy>(entries: &[T], turn: usize, none: T) -> T {
+    if entries.len() == 0 {
+        return none;
     }
-    let at = turn % words.len();
-    if at < words.len() { words[at] } else { 0 }
-}
-
-fn byte_at(bytes: &[u8], turn: usize) -> u8 {
-    if bytes.len() == 0 {
-        return 0;
+    let at = turn % entries.len();
+    if at < entries.len() {
+        entries[at]
+    } else {
+        none
     }
-    let at = turn % bytes.len();
-    if at < bytes.len() { bytes[at] } else { 0 }
 }
 
 // Each repetition finds another input, and adds its answer, a correlation and a byte to the figure: some fifty
@@ -123,16 +116,14 @@ pub(crate) fn repeat(
     pack: &mut [u8],
 ) -> u64 {
     let mut sum: u64 = 0;
-    let mut left = job.reps;
-    while 0 < left {
-        left -= 1;
+    for left in (0..job.reps).rev() {
         vary(deviations);
         vary(correlations);
         vary_pack(pack);
         let answer = once(job, deviations, correlations, states, pack);
         sum = figure::add(sum, answer);
-        sum = figure::add(sum, word_at(correlations, left));
-        sum = figure::add_byte(sum, byte_at(pack, left));
+        sum = figure::add(sum, entry_at(correlations, left, 0));
+        sum = figure::add_byte(sum, entry_at(pack, left, 0));
     }
     sum
 }

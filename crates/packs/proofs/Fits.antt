@@ -6,18 +6,14 @@ use Prim.Native.Nat.{ℕ, ◌+◌, ◌-◌, ◌*◌, ◌≤◌}
 use native.Mathlib.Omega.{arith}
 use lib.Dec.{eqb, leb, ltb}
 use lib.ListN.{length, drop, length-append, length-take}
+use Rattle.std.specs.Prelude.{None, Some, Option}
 use Rattle.answers.specs.Table.{Answer, plains}
 use Rattle.answers.proofs.Rules.{picked}
-use Rattle.layout.specs.declared.size.Peek.{Peek}
-use Rattle.layout.specs.declared.size.Peek.TheVariants as peek
 use Rattle.layout.proofs.Peek.{peek-size}
 use Rattle.layout.proofs.RowByRow.{most-slots}
 use Rattle.elements.proofs.Opened.{fit-within}
 use Rattle.sets.specs.declared.item.Item.{Item}
-use Rattle.sets.specs.declared.item.Item.TheVariants.{Read, Faulty}
 use Rattle.sets.specs.declared.pack.PackPlace.{PackPlace}
-use Rattle.sets.specs.declared.pack.NextPack.{NextPack}
-use Rattle.sets.specs.declared.pack.NextPack.TheVariants.{Pack, Nothing}
 use Rattle.sets.specs.Items.{Placed, items_from}
 use Rattle.sets.specs.Packs.{pushed, packs_of, nth, next_pack}
 use Rattle.sets.specs.Parts.{part_of}
@@ -35,14 +31,14 @@ use Rattle.packs.specs.Printed.{max_rows, room, is_too_big, first_line}
 
 -- ---- the first line
 -- whatever is answered of a set carries few numbers
-few-peek : (q : Peek) → Few (peek_rule q)
-few-peek (peek.Size n) = few-answer _ _ tt
-few-peek peek.Nothing = few-answer _ _ tt
+few-peek : (q : Option ℕ) → Few (peek_rule q)
+few-peek (Some n) = few-answer _ _ tt
+few-peek None = few-answer _ _ tt
 
 module _ (set : List ℕ) (entries : ℕ) where
-  few-item : (seen at : ℕ) (i : Item) → Few (item_rules set entries seen at i)
-  few-item seen at Faulty = few-answer _ _ tt
-  few-item seen at (Read tag start end) = search (few-answer, few-pick, few-peek)
+  few-item : (seen at : ℕ) (i : Option Item) → Few (item_rules set entries seen at i)
+  few-item seen at None = few-answer _ _ tt
+  few-item seen at (Some i) = search (few-answer, few-pick, few-peek)
 
   few-items : (seen : ℕ) (ps : List Placed) → Few (set_rules set entries seen ps)
   few-items seen [] = few-answer _ _ tt
@@ -105,7 +101,7 @@ pub record FewTags (p : PackPlace) : Type 0 where
   pub refined : p.to ≤ p.from + max_rows
 
 module _ (set : List ℕ) where
-  first-few : (seen : ℕ) (is : List Placed) {p : PackPlace} → nth 0 (packs_of set seen is) ≡ Pack p → FewTags p
+  first-few : (seen : ℕ) (is : List Placed) {p : PackPlace} → nth 0 (packs_of set seen is) ≡ Some p → FewTags p
   first-few seen is h =
       let a = among set is seen 0 h in
       let f = a.found in
@@ -113,12 +109,12 @@ module _ (set : List ℕ) where
       let w = (fit-within (part_of a.start a.end set) (ap (λ (x : Answer). x.number) s.0)).rows in
       record { refined = omega (arith, f.to, f.from, s.1, w) }
 
-  next-few : (b : PackPlace) {p : PackPlace} → next_pack set b ≡ Pack p → FewTags p
+  next-few : (b : PackPlace) {p : PackPlace} → next_pack set b ≡ Some p → FewTags p
   next-few b {p} =
-      picked (λ (x : NextPack). x ≡ Pack p → FewTags p) (leb b.to b.end) (nth 0 (packs_of set b.to (items_from set b.end))) Nothing
+      picked (λ (x : Option PackPlace). x ≡ Some p → FewTags p) (leb b.to b.end) (nth 0 (packs_of set b.to (items_from set b.end))) None
       (λ _. first-few b.to (items_from set b.end)) (λ _ h. let z : ◌≡◌ {A = ℕ} 0 1 = cc in absurd (omega arith))
 
   -- so the text of the pack behind another fits, whatever the tag list and the rooms for its numbers are
-  pub next_fits : (tags : List ℕ) (b p : PackPlace) → next_pack set b ≡ Pack p
+  pub next_fits : (tags : List ℕ) (b p : PackPlace) → next_pack set b ≡ Some p
       → (d c s : ℕ) → length (pack_text set tags p (read_answer (bytes_of set p) d c s)) ≤ room
   next_fits tags b p h d c s = text-length set tags p (next-few b h).refined d c s

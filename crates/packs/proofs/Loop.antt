@@ -8,13 +8,11 @@ use borrow.Author.Tests.{le-ltb}
 use lib.Dec.{eqb}
 use lib.ListN.{length, drop, length-append, length-drop}
 use lib.Seq.{drop-append-le, take-append-le}
+use Rattle.std.specs.Prelude.{None, Some, Option}
 use Rattle.answers.specs.Lent.{over}
 use Rattle.answers.proofs.Rules.{by_bool}
 use Rattle.sets.specs.declared.item.Item.{Item}
-use Rattle.sets.specs.declared.item.Item.TheVariants.{Read, Faulty}
 use Rattle.sets.specs.declared.pack.PackPlace.{PackPlace}
-use Rattle.sets.specs.declared.pack.NextPack.{NextPack}
-use Rattle.sets.specs.declared.pack.NextPack.TheVariants.{Pack, Nothing}
 use Rattle.sets.specs.Items.{Placed, items_of}
 use Rattle.sets.specs.Packs.{pushed, tags_of, pack_of, before, packs_of, nth, next_pack}
 use Rattle.sets.specs.Parts.{part_of}
@@ -24,11 +22,11 @@ use Rattle.packs.specs.Printed.{max_tags, is_too_big, first_line, printed_packs,
 
 -- ---- from pack to pack
 loop-texts : (set tags : List ℕ) (ps : List PackPlace) (b : PackPlace) → next_pack set b ≡ nth 0 ps
-    → ((j : ℕ) (p : PackPlace) → nth j ps ≡ Pack p → next_pack set p ≡ nth (suc j) ps)
+    → ((j : ℕ) (p : PackPlace) → nth j ps ≡ Some p → next_pack set p ≡ nth (suc j) ps)
     → loop_text (length ps) set tags b ≡ texts_of set tags ps
 loop-texts set tags [] b e h = refl
 loop-texts set tags (p ∷ ps) b e h =
-    ap (λ (x : NextPack). behind_text set tags x (λ q. loop_text (length ps) set tags q)) e
+    ap (λ (x : Option PackPlace). behind_text set tags x (λ q. loop_text (length ps) set tags q)) e
     ∙ ap (λ (t : List ℕ). text_of set tags p ++ t) (loop-texts set tags ps p (h 0 p refl) (λ j q k. h (suc j) q k))
 
 -- ---- what stands behind the set's tags in the list is never read
@@ -39,17 +37,17 @@ module _ (set ts rest : List ℕ) where
       (rw (drop-append-le p.from ts rest (omega arith)) (take-append-le (p.to - p.from) (drop p.from ts) rest (simp length-drop (omega arith))))
 
   -- a pack's part ends where the tags seen before it do
-  item-text : (seen : ℕ) (i : Item) (p : PackPlace) → pack_of set seen i ≡ Pack p → seen ≤ length ts → text_of set (ts ++ rest) p ≡ text_of set ts p
-  item-text seen Faulty p h l = let z : ◌≡◌ {A = ℕ} 0 1 = cc in absurd (omega arith)
-  item-text seen (Read tag start end) p h l =
-      let f = pack-tells set seen tag start end h in
+  item-text : (seen : ℕ) (i : Option Item) (p : PackPlace) → pack_of set seen i ≡ Some p → seen ≤ length ts → text_of set (ts ++ rest) p ≡ text_of set ts p
+  item-text seen None p h l = let z : ◌≡◌ {A = ℕ} 0 1 = cc in absurd (omega arith)
+  item-text seen (Some i) p h l =
+      let f = pack-tells set seen i.tag i.start i.end h in
       rw (tags-front p (omega (arith, f.to, f.from)) (omega (arith, f.to)))
 
   -- one, where there is one, before others
-  more-texts : (x : NextPack) (ps : List PackPlace) → ((p : PackPlace) → x ≡ Pack p → text_of set (ts ++ rest) p ≡ text_of set ts p)
+  more-texts : (x : Option PackPlace) (ps : List PackPlace) → ((p : PackPlace) → x ≡ Some p → text_of set (ts ++ rest) p ≡ text_of set ts p)
       → texts_of set (ts ++ rest) ps ≡ texts_of set ts ps → texts_of set (ts ++ rest) (before x ps) ≡ texts_of set ts (before x ps)
-  more-texts Nothing ps f e = e
-  more-texts (Pack p) ps f e = ap₂ ◌++◌ (f p refl) e
+  more-texts None ps f e = e
+  more-texts (Some p) ps f e = ap₂ ◌++◌ (f p refl) e
 
   same-texts : (seen : ℕ) (is : List Placed) → seen + length (tags_of is) ≤ length ts
       → texts_of set (ts ++ rest) (packs_of set seen is) ≡ texts_of set ts (packs_of set seen is)

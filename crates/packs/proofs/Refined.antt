@@ -8,8 +8,9 @@ use lib.ListN.{length}
 use Rattle.sets.specs.declared.pack.PackPlace.{PackPlace}
 use Rattle.sets.specs.Parts.{part_of}
 use Rattle.text.specs.Text.{ascii, newline}
-use Rattle.text.specs.Put.{Put}
-use Rattle.text.proofs.Pieces.{put_then}
+use Rattle.text.specs.declared.page.Page.{Page}
+use Rattle.text.specs.Page.{Adds}
+use Rattle.text.proofs.Adding.{adds_then}
 use Rattle.lines.specs.Lines.{numbers}
 use Rattle.report.specs.Answer.{answer_lines, answered, Left}
 use Rattle.packs.specs.Lines.{place_line, listed_tags, tags_text, bytes_of, pack_text}
@@ -23,16 +24,16 @@ listed-some [] n = absurd (n refl)
 listed-some (t ∷ ts) n = refl
 
 -- ---- a pack's pieces; its bytes and its tags are parts of what was lent
-module _ (set tags : List ℕ) (p : PackPlace) {ds cs ss ds' cs' ss' : List ℕ} {at : ℕ} {l : List ℕ} {r : ℕ} {m : List ℕ} where
+module _ (set tags : List ℕ) (p : PackPlace) {ds cs ss ds' cs' ss' : List ℕ} {page page' : Page} where
   pub pack-put : {bytes : List ℕ} → bytes ≡ bytes_of set p → {ts : List ℕ} → ts ≡ part_of p.from p.to tags
-      → {i : ℕ} {l₁ : List ℕ} → Put (place_line p) at l i l₁
-      → {j : ℕ} {l₂ : List ℕ} → Put (tags_text ts) i l₁ j l₂
-      → {k : ℕ} {l₃ : List ℕ} → Put newline j l₂ k l₃
-      → Put (answer_lines bytes (answered bytes ds cs ss)) k l₃ r m × Left bytes ds cs ss ds' cs' ss'
-      → Put (pack_text set tags p (answered (bytes_of set p) ds cs ss)) at l r m × Left (bytes_of set p) ds cs ss ds' cs' ss'
+      → {placed : Page} → Adds (place_line p) page placed
+      → {refined : Page} → Adds (tags_text ts) placed refined
+      → {lined : Page} → Adds newline refined lined
+      → Adds (answer_lines bytes (answered bytes ds cs ss)) lined page' × Left bytes ds cs ss ds' cs' ss'
+      → Adds (pack_text set tags p (answered (bytes_of set p) ds cs ss)) page page' × Left (bytes_of set p) ds cs ss ds' cs' ss'
   pack-put e {ts} g a b c d =
-      let whole = put_then (put_then (put_then a b) c) d.0 in (
-        subst (λ (x : List ℕ). Put (place_line p ++ tags_text x ++ newline ++ answer_lines (bytes_of set p) (answered (bytes_of set p) ds cs ss)) at l r m) g
-            (subst (λ (x : List ℕ). Put (place_line p ++ tags_text ts ++ newline ++ answer_lines x (answered x ds cs ss)) at l r m) e whole),
+      let whole = adds_then (adds_then (adds_then a b) c) d.0 in (
+        subst (λ (x : List ℕ). Adds (place_line p ++ tags_text x ++ newline ++ answer_lines (bytes_of set p) (answered (bytes_of set p) ds cs ss)) page page') g
+            (subst (λ (x : List ℕ). Adds (place_line p ++ tags_text ts ++ newline ++ answer_lines x (answered x ds cs ss)) page page') e whole),
         subst (λ (x : List ℕ). Left x ds cs ss ds' cs' ss') e d.1,
       )

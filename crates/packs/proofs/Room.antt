@@ -8,10 +8,10 @@ use native.Mathlib.Omega.{arith}
 use borrow.Author.Tests.{lt-leb, ltb-false}
 use lib.Dec.{leb}
 use lib.ListN.{length, length-append}
+use Rattle.std.specs.Prelude.{None, Some, Option}
 use Rattle.answers.specs.Table.{Answer, next}
 use Rattle.answers.proofs.Rules.{picked, by_bool}
 use Rattle.sets.specs.declared.item.Item.{Item}
-use Rattle.sets.specs.declared.item.Item.TheVariants.{Read, Faulty}
 use Rattle.sets.specs.Items.{Placed, item_at, behind, items_up_to, items_of}
 use Rattle.sets.specs.Packs.{pushed, tags_of}
 use Rattle.sets.specs.Rules.{pack_rule, room_rule, item_rules, set_rules, set_answer}
@@ -21,19 +21,18 @@ use Rattle.sets.proofs.Walk.{pushed-count, one}
 use Rattle.packs.specs.Printed.{max_bytes, max_tags, is_too_big}
 
 -- ---- a tag takes two bytes at least
-one-pushed : (i : Item) → length (pushed i) ≤ 1
-one-pushed Faulty = omega arith
-one-pushed (Read tag start end) = rw (pushed-count tag start end) (one (is_pushed tag))
+one-pushed : (i : Option Item) → length (pushed i) ≤ 1
+one-pushed None = omega arith
+one-pushed (Some i) = rw (pushed-count i) (one (is_pushed i.tag))
 
 module _ (set : List ℕ) where
   -- those of an item and of what comes behind it
-  two_bytes : (at : ℕ) (i : Item) → i ≡ item_at set at → (rest : ℕ → List Placed) → ((end : ℕ) → 2 * length (tags_of (rest end)) ≤ length set - end)
+  two_bytes : (at : ℕ) (i : Option Item) → i ≡ item_at set at → (rest : ℕ → List Placed) → ((end : ℕ) → 2 * length (tags_of (rest end)) ≤ length set - end)
       → 2 * length (pushed i ++ tags_of (behind i rest)) ≤ length set - at
-  two_bytes at Faulty q rest h = omega arith
-  two_bytes at (Read tag start end) q rest h =
+  two_bytes at None q rest h = omega arith
+  two_bytes at (Some i) q rest h =
       let t = item-tells set at q in
-      let i = Read tag start end in
-      omega (arith, length-append (pushed i) (tags_of (rest end)), one-pushed i, h end, t.0, t.1, t.2)
+      omega (arith, length-append (pushed (Some i)) (tags_of (rest i.end)), one-pushed (Some i), h i.end, t.0, t.1, t.2)
 
   tags-from : (most at : ℕ) → 2 * length (tags_of (items_up_to most set at)) ≤ length set - at
   unfolding items_up_to
@@ -44,17 +43,17 @@ module _ (set : List ℕ) where
 
 -- ---- where there is room for all of them, it does not matter how much
 module _ (set : List ℕ) (r s : ℕ) where
-  room-same : (seen tag start end : ℕ) → seen + length (pushed (Read tag start end)) ≤ r → seen + length (pushed (Read tag start end)) ≤ s
-      → room_rule r seen tag ≡ room_rule s seen tag
-  room-same seen tag start end h k =
-      by_bool (is_pushed tag)
-      (λ t. let one : length (pushed (Read tag start end)) ≡ 1 = rw t in rw (t, lt-leb r seen (omega arith), lt-leb s seen (omega arith)))
+  room-same : (seen : ℕ) (i : Item) → seen + length (pushed (Some i)) ≤ r → seen + length (pushed (Some i)) ≤ s
+      → room_rule r seen i.tag ≡ room_rule s seen i.tag
+  room-same seen i h k =
+      by_bool (is_pushed i.tag)
+      (λ t. let one : length (pushed (Some i)) ≡ 1 = rw t in rw (t, lt-leb r seen (omega arith), lt-leb s seen (omega arith)))
       (λ f. rw (f, and-false (leb r seen), and-false (leb s seen)))
 
-  item-same : (seen at : ℕ) (i : Item) → seen + length (pushed i) ≤ r → seen + length (pushed i) ≤ s
+  item-same : (seen at : ℕ) (i : Option Item) → seen + length (pushed i) ≤ r → seen + length (pushed i) ≤ s
       → item_rules set r seen at i ≡ item_rules set s seen at i
-  item-same seen at Faulty h k = refl
-  item-same seen at (Read tag start end) h k = ap (λ (a : Answer). next (pack_rule set tag start end) a) (room-same seen tag start end h k)
+  item-same seen at None h k = refl
+  item-same seen at (Some i) h k = ap (λ (a : Answer). next (pack_rule set i.tag i.start i.end) a) (room-same seen i h k)
 
   rules-same : (seen : ℕ) (ps : List Placed) → seen + length (tags_of ps) ≤ r → seen + length (tags_of ps) ≤ s
       → set_rules set r seen ps ≡ set_rules set s seen ps

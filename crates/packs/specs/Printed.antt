@@ -1,12 +1,10 @@
 -- Document 02, K7: what the program `set` prints for which input, all of it. It is written pack by pack.
-use Rattle.std.specs.Prelude.{ℕ, zero, suc, ◌≡◌, Bool, List, [], ◌∷◌, ◌++◌, ltb, length}
+use Rattle.std.specs.Prelude.{ℕ, zero, suc, ◌≡◌, Bool, List, [], ◌∷◌, ◌++◌, ltb, length, None, Some, Option, Ok, Err, Result}
 use Rattle.answers.specs.Table.{pick}
+use Rattle.answers.specs.declared.Refusal.{Refusal}
 use Rattle.reader.specs.Rules.{read_answer}
 use Rattle.sets.specs.declared.pack.PackPlace.{PackPlace}
-use Rattle.sets.specs.declared.pack.NextPack.{NextPack}
-use Rattle.sets.specs.declared.pack.NextPack.TheVariants.{Pack, Nothing}
-use Rattle.sets.specs.declared.set.SetAnswer.{SetAnswer}
-use Rattle.sets.specs.declared.set.SetAnswer.TheVariants.{Done, Refused}
+use Rattle.sets.specs.declared.set.SetCounts.{SetCounts}
 use Rattle.sets.specs.Items.{items_of}
 use Rattle.sets.specs.Packs.{tags_of, place, next_pack}
 use Rattle.sets.specs.Rules.{set_answer, left_tags}
@@ -39,9 +37,9 @@ first_line set room = pick (is_too_big set) too_big_line (set_text (set_answer s
 abbrev pub printed_packs : List ℕ → ℕ → List PackPlace
 printed_packs set room = pick (is_too_big set) [] (taken_packs set room)
 
-abbrev pub pack_count : SetAnswer → ℕ
-pack_count (Done packs tags) = packs
-pack_count (Refused r) = 0
+abbrev pub pack_count : Result SetCounts Refusal → ℕ
+pack_count (Ok c) = c.packs
+pack_count (Err r) = 0
 
 -- the tag list as it is left
 abbrev pub tags_left : List ℕ → List ℕ → List ℕ
@@ -60,9 +58,9 @@ unfoldable pub printed : List ℕ → List ℕ
 printed set = first_line set max_tags ++ texts_of set (tags_of (items_of set)) (printed_packs set max_tags)
 
 -- ---- what a loop of so many turns writes, from one pack to the next
-abbrev pub behind_text : List ℕ → List ℕ → NextPack → (PackPlace → List ℕ) → List ℕ
-behind_text set tags Nothing rest = []
-behind_text set tags (Pack p) rest = text_of set tags p ++ rest p
+abbrev pub behind_text : List ℕ → List ℕ → Option PackPlace → (PackPlace → List ℕ) → List ℕ
+behind_text set tags None rest = []
+behind_text set tags (Some p) rest = text_of set tags p ++ rest p
 
 abbrev pub loop_text : ℕ → List ℕ → List ℕ → PackPlace → List ℕ
 loop_text zero set tags p = []

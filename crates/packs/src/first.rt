@@ -1,27 +1,21 @@
 //! The first line: how many packs a set has, and how many tags; or why it is refused.
 ghost use Rattle.std.specs.Prelude.{◌≡◌, length};
 ghost use Rattle.sets.specs.Rules.{set_listed};
-ghost use Rattle.text.specs.Put.{Put};
+ghost use Rattle.text.specs.Page.{Adds};
 ghost use Rattle.packs.specs.Lines.{set_text};
 ghost use Rattle.packs.specs.Printed.{is_too_big, first_line, pack_count, printed_packs, tags_left};
 
+use answers::Refusal;
 use lines::refusal::put_refused;
 use lines::values::put_values;
-use sets::set::{SetAnswer, read_set};
-use text::put::{put_byte, put_text};
+use sets::set::{SetCounts, read_set};
+use text::page::Page;
 
 // The most that is read.
 pub const MAX_BYTES: usize = 600_000;
 
 // An item takes two bytes at least, so that no list is full.
 pub const MAX_TAGS: usize = 300_000;
-
-// How many packs are to follow, and where the line ends.
-#[derive(Clone, Copy)]
-pub struct Begun {
-    pub packs: usize,
-    pub behind: usize,
-}
 
 pub fn is_too_big(bytes: &[u8]) -> bool
     ensures { result ≡ is_too_big bytes.now }
@@ -30,44 +24,37 @@ pub fn is_too_big(bytes: &[u8]) -> bool
 }
 
 // What is answered of a set.
-pub fn put_set(answer: SetAnswer, at: usize, out: &mut [u8]) -> usize
-    ensures { Put (set_text (set_listed answer)) at out.old result out.new }
+pub fn put_set(answer: Result<SetCounts, Refusal>, page: &mut Page<'_>)
+    ensures { Adds (set_text (set_listed answer)) page.old page.new }
 {
     match answer {
-        SetAnswer::Done { packs, tags } => {
-            let named = put_text(b"set", at, out);
-            put_values(2, [packs as u64, tags as u64, 0], named, out)
+        Ok(counts) => {
+            page.text(b"set");
+            put_values(2, [counts.packs as u64, counts.tags as u64, 0], page);
         }
-        SetAnswer::Refused(refusal) => put_refused(refusal, at, out),
+        Err(refusal) => put_refused(refusal, page),
     }
 }
 
 // None of a set that is refused.
-fn count_of(answer: SetAnswer) -> usize
+fn count_of(answer: Result<SetCounts, Refusal>) -> usize
     ensures { result ≡ pack_count answer }
 {
-    match answer {
-        SetAnswer::Done { packs, tags: _ } => packs,
-        SetAnswer::Refused(_) => 0,
-    }
+    answer.map_or(0, |counts| counts.packs)
 }
 
-// The set is read, and its tags go into the list, unless it is too big.
-pub fn put_first(set: &[u8], tags: &mut [u32], at: usize, out: &mut [u8]) -> Begun
-    ensures { (result.packs ≡ length (printed_packs set.now (length tags.old)))
-        × Put (first_line set.now (length tags.old))
-        at out.old result.behind out.new
+// The set is read, and its tags go into the list, unless it is too big. Answers how many packs are to follow.
+pub fn put_first(set: &[u8], tags: &mut [u32], page: &mut Page<'_>) -> usize
+    ensures { (result ≡ length (printed_packs set.now (length tags.old)))
+        × Adds (first_line set.now (length tags.old)) page.old page.new
         × (tags.new ≡ tags_left set.now tags.old) }
 {
     if is_too_big(set) {
-        let behind = put_text(b"too big for this program\n", at, out);
-        return Begun { packs: 0, behind };
+        page.text(b"too big for this program\n");
+        return 0;
     }
     let answer = read_set(set, tags);
-    let said = put_set(answer, at, out);
-    let behind = put_byte(b'\n', said, out);
-    Begun {
-        packs: count_of(answer),
-        behind,
-    }
+    put_set(answer, page);
+    page.byte(b'\n');
+    count_of(answer)
 }

@@ -1,5 +1,5 @@
 //! The text of one pack of a set.
-ghost use Rattle.text.specs.Put.{Put};
+ghost use Rattle.text.specs.Page.{Adds};
 ghost use Rattle.report.specs.Answer.{answered, Left};
 ghost use Rattle.packs.specs.Lines.{place_line, bytes_of, pack_text};
 
@@ -8,7 +8,7 @@ use lines::values::put_values;
 use report::answer::put_answer;
 use sets::pack::PackPlace;
 use sets::part::{pack_part, tags_part};
-use text::put::{put_byte, put_text};
+use text::page::Page;
 
 // The most rows that a pack has, and their slots.
 pub const MAX_ROWS: usize = 256;
@@ -18,12 +18,12 @@ pub const MAX_SLOTS: usize = 32_640;
 // The text of any pack of a set fits.
 pub const ROOM: usize = 1_000_000;
 
-fn put_place(place: PackPlace, at: usize, out: &mut [u8]) -> usize
-    ensures { Put (place_line place) at out.old result out.new }
+fn put_place(place: PackPlace, page: &mut Page<'_>)
+    ensures { Adds (place_line place) page.old page.new }
 {
-    let named = put_text(b"pack", at, out);
-    let placed = put_values(2, [place.start as u64, place.end as u64, 0], named, out);
-    put_byte(b'\n', placed, out)
+    page.text(b"pack");
+    put_values(2, [place.start as u64, place.end as u64, 0], page);
+    page.byte(b'\n');
 }
 
 // Where it stands, the tags that it refines, and what the reader answers of it, with the rooms that it is lent.
@@ -34,26 +34,24 @@ pub fn put_pack_of(
     deviations: &mut [u64],
     correlations: &mut [u64],
     states: &mut [u8],
-    at: usize,
-    out: &mut [u8],
-) -> usize
-    ensures { Put (pack_text set.now tags.now place
+    page: &mut Page<'_>,
+)
+    ensures { Adds (pack_text set.now tags.now place
         (answered (bytes_of set.now place)
         deviations.old correlations.old states.old))
-        at out.old result out.new
+        page.old page.new
         × Left (bytes_of set.now place)
         deviations.old correlations.old states.old
         deviations.new correlations.new states.new }
 {
-    let placed = put_place(place, at, out);
-    let refined = put_tags(tags_part(tags, place), placed, out);
-    let lined = put_byte(b'\n', refined, out);
+    put_place(place, page);
+    put_tags(tags_part(tags, place), page);
+    page.byte(b'\n');
     put_answer(
         pack_part(set, place),
         deviations,
         correlations,
         states,
-        lined,
-        out,
-    )
+        page,
+    );
 }

@@ -10,7 +10,8 @@ use Rattle.answers.specs.Table.{pick}
 use Rattle.answers.proofs.Joined.{length-joined}
 use Rattle.explain.specs.declared.spans.Span.{Span}
 use Rattle.explain.specs.declared.spans.Elements.{Elements}
-use Rattle.explain.specs.declared.slot.SlotCode.TheVariants.{Absent, At}
+use Rattle.std.specs.Prelude.{None, Some}
+use Rattle.explain.specs.Slots.{code_of}
 use Rattle.text.specs.Text.{ascii, space}
 use Rattle.text.proofs.Figures.{length-figures}
 use Rattle.lines.specs.Lines.{numbers}
@@ -61,22 +62,22 @@ present-length lines bytes s =
     (omega (arith, numbers-length (s.start ∷ s.end ∷ []), either-length lines (space ++ hex_text bytes s), hex-length bytes s))
 
 module _ (lines : Bool) (bytes : List ℕ) (i j : ℕ) where
-  pub absent-length : length (gap lines ++ slot_text lines bytes i j Absent) ≤ 75
+  pub absent-length : length (gap lines ++ slot_text lines bytes i j None) ≤ 75
   absent-length =
       omega (
         arith,
         gap_length lines,
-        length-append (gap lines) (slot_text lines bytes i j Absent),
+        length-append (gap lines) (slot_text lines bytes i j None),
         length-append (ascii "slot" ++ numbers (i ∷ j ∷ 0 ∷ [])) (ascii " absent"),
         numbers-length (i ∷ j ∷ 0 ∷ []),
       )
 
-  pub at_length : (s : Span) (x : ℕ) → length (gap lines ++ slot_text lines bytes i j (At s x)) ≤ 111 + 2 * (s.end - s.start)
+  pub at_length : (s : Span) (x : ℕ) → length (gap lines ++ slot_text lines bytes i j (Some (code_of s x))) ≤ 111 + 2 * (s.end - s.start)
   at_length s x =
       omega (
         arith,
         gap_length lines,
-        length-append (gap lines) (slot_text lines bytes i j (At s x)),
+        length-append (gap lines) (slot_text lines bytes i j (Some (code_of s x))),
         length-append (ascii "slot" ++ numbers (i ∷ j ∷ x ∷ [])) (present_text lines bytes s),
         numbers-length (i ∷ j ∷ x ∷ []),
         present-length lines bytes s,

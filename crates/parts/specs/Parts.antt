@@ -1,12 +1,11 @@
 -- The parts of a pack that is accepted, as text: its elements, and for each slot where its code stands or "absent". Each
 -- part has a line of its own, and a code its bytes in hex; or parts are joined by `;`, without the bytes.
-use Rattle.std.specs.Prelude.{ℕ, ◌+◌, ◌-◌, Bool, List, [], ◌∷◌, ◌++◌, get_or}
+use Rattle.std.specs.Prelude.{ℕ, ◌+◌, ◌-◌, Bool, List, [], ◌∷◌, ◌++◌, get_or, None, Option, Some}
 use Rattle.answers.specs.Table.{pick}
 use Rattle.answers.specs.Lent.{joined}
 use Rattle.explain.specs.declared.spans.Span.{Span}
 use Rattle.explain.specs.declared.spans.Elements.{Elements}
 use Rattle.explain.specs.declared.slot.SlotCode.{SlotCode}
-use Rattle.explain.specs.declared.slot.SlotCode.TheVariants.{Absent, At}
 use Rattle.text.specs.Text.{ascii, space, newline, figures}
 use Rattle.lines.specs.Lines.{numbers}
 
@@ -36,6 +35,7 @@ present_text lines bytes s =
     numbers (s.start ∷ s.end ∷ []) ++ pick lines (space ++ hex_text bytes s) []
 
 -- i, j, the state, and where the code stands
-abbrev pub slot_text : Bool → List ℕ → ℕ → ℕ → SlotCode → List ℕ
-slot_text lines bytes i j Absent = ascii "slot" ++ numbers (i ∷ j ∷ 0 ∷ []) ++ ascii " absent"
-slot_text lines bytes i j (At s x) = ascii "slot" ++ numbers (i ∷ j ∷ x ∷ []) ++ present_text lines bytes s
+abbrev pub slot_text : Bool → List ℕ → ℕ → ℕ → Option SlotCode → List ℕ
+slot_text lines bytes i j None = ascii "slot" ++ numbers (i ∷ j ∷ 0 ∷ []) ++ ascii " absent"
+slot_text lines bytes i j (Some code) =
+    ascii "slot" ++ numbers (i ∷ j ∷ code.state ∷ []) ++ present_text lines bytes code.span

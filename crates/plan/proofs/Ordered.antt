@@ -5,10 +5,9 @@ use mathlib.Core.List.{List}
 use Prim.Native.Nat.{ℕ, min}
 use native.Mathlib.Omega.{arith}
 use lib.ListN.{length}
+use Rattle.std.specs.Prelude.{Err, Result, ⊤}
 use Rattle.answers.specs.Table.{Answer}
 use Rattle.answers.specs.Listed.{listed, checked}
-use Rattle.answers.specs.declared.Check.{Check}
-use Rattle.answers.specs.declared.Check.TheVariants.{Refused}
 use Rattle.answers.specs.declared.Refusal.{Refusal}
 use Rattle.answers.proofs.Next.{next-passed, stops}
 use Rattle.layout.specs.Size.{max_slots}
@@ -31,7 +30,7 @@ module _ (n : ℕ) (cs : List ℕ) (L : ℕ) where
   abbrev plan : Plan
   plan = pack_plan n cs L
 
-  pub counts-stop : {k : Check} {r : Refusal} → checked k ≡ counts → k ≡ Refused r → refused (listed r) ≡ planned n cs L
+  pub counts-stop : {k : Result ⊤ Refusal} {r : Refusal} → checked k ≡ counts → k ≡ Err r → refused (listed r) ≡ planned n cs L
   counts-stop {r = r} e h = refused-where (plan_rules n cs L) plan r (sym (stops counts (range_rules cs) e h) ∙ ap checked h)
 
   module _ (c : counts.number ≡ 0) where

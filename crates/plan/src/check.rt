@@ -6,72 +6,53 @@ ghost use Rattle.plan.specs.Rules.{count_rules};
 ghost use Rattle.plan.specs.Tally.{bits_met, least_met};
 
 use crate::zero::{least_of, raised, zero_of};
-use answers::{Check, Refusal};
+use answers::Refusal;
 use imapb::encode::check_range;
 use layout::pack::SdccFlp;
 use layout::triangle::corr_slots;
 
-// How many correlations are 0, or the refusal of the first that lies outside.
-#[derive(Clone, Copy)]
-pub(crate) enum Counted {
-    Zeros(usize),
-    Refused(Refusal),
-}
-
 // N, the count of correlations, Clen.
-pub(crate) fn check_counts(rows: usize, count: usize, clen: usize) -> Check
+pub(crate) fn check_counts(rows: usize, count: usize, clen: usize) -> Result<(), Refusal>
     ensures { checked result ≡ count_rules rows count clen }
 {
     if SdccFlp::MAX_ROWS < rows as u64 {
-        return Check::Refused(Refusal::TooManyRows { n: rows });
+        return Err(Refusal::TooManyRows { n: rows });
     }
     let slots = corr_slots(rows as u32);
     if count as u64 != slots {
-        return Check::Refused(Refusal::OutOfRange {
+        return Err(Refusal::OutOfRange {
             value: count as u64,
             least: slots,
             most: slots,
         });
     }
-    if clen < 1 {
-        return Check::Refused(Refusal::UnsupportedImapbLength { length: clen });
+    if clen < 1 || 8 < clen {
+        return Err(Refusal::UnsupportedImapbLength { length: clen });
     }
-    if 8 < clen {
-        return Check::Refused(Refusal::UnsupportedImapbLength { length: clen });
-    }
-    Check::Passes
+    Ok(())
 }
 
 // One correlation: 1 where it is 0, and 0 for another from -1 to 1.
-fn check_one(value: u64) -> Counted
+fn check_one(value: u64) -> Result<usize, Refusal>
     ensures { count_listed result ≡ counted_one value }
 {
-    let check = check_range(value);
-    if let Check::Refused(refusal) = check {
-        return Counted::Refused(refusal);
-    }
-    Counted::Zeros(zero_of(value))
+    check_range(value)?;
+    Ok(zero_of(value))
 }
 
 // The plain form: each correlation in turn.
-fn check_each(correlations: &[u64]) -> Counted
+fn check_each(correlations: &[u64]) -> Result<usize, Refusal>
     ensures { count_listed result ≡ counted correlations.now }
 {
     let mut zeros: usize = 0;
-    let mut k: usize = 0;
-    while k < correlations.len() {
-        let one = check_one(correlations[k]);
-        let Counted::Zeros(zero) = one else {
-            return one;
-        };
-        zeros += zero;
-        k += 1;
+    for &value in correlations {
+        zeros += check_one(value)?;
     }
-    Counted::Zeros(zeros)
+    Ok(zeros)
 }
 
 // The bits that are set in one number or another, itself or raised, and how many of them are 0.
-#[derive(Clone, Copy)]
+#[derive(Clone, Copy, Debug, PartialEq, Eq)]
 pub(crate) struct Tally {
     bits: u64,
     zeros: usize,
@@ -85,23 +66,21 @@ fn tally_of(correlations: &[u64]) -> Tally
 {
     let mut bits: u64 = 0;
     let mut zeros: usize = 0;
-    let mut k: usize = 0;
-    while k < correlations.len() {
-        let high = raised(correlations[k]);
-        bits |= correlations[k] | high;
+    for &value in correlations {
+        let high = raised(value);
+        bits |= value | high;
         zeros += least_of(high);
-        k += 1;
     }
     Tally { bits, zeros }
 }
 
 // Where a number is 1 or more, the plain form looks at each in turn.
-pub(crate) fn check_correlations(correlations: &[u64]) -> Counted
+pub(crate) fn check_correlations(correlations: &[u64]) -> Result<usize, Refusal>
     ensures { count_listed result ≡ counted correlations.now }
 {
     let found = tally_of(correlations);
     if found.bits / 0x4000_0000_0000_0000 % 2 == 0 {
-        return Counted::Zeros(found.zeros);
+        return Ok(found.zeros);
     }
     check_each(correlations)
 }

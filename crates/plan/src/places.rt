@@ -6,7 +6,7 @@ ghost use Rattle.plan.specs.Places.{vector_length, sent_count, plan_of};
 use numbers::ber_oid::ber_oid_len;
 
 // Elements 1 and 2 start at 0; `end` is the pack's length.
-#[derive(Clone, Copy)]
+#[derive(Clone, Copy, Debug, PartialEq, Eq)]
 pub struct Plan {
     pub clen: usize,
     pub sparse: bool,
@@ -32,7 +32,8 @@ fn sent_count(sparse: bool, slots: usize, zeros: usize) -> usize
     if sparse { slots - zeros } else { slots }
 }
 
-// Appendix A's rule decides the form.
+// Appendix A's rule decides the form. What bounds the four numbers is asked here, and no type: each is used as a
+// number.
 pub(crate) fn plan_of(rows: usize, slots: usize, zeros: usize, clen: usize) -> Plan
     requires { (rows ≤ max_rows) × (slots ≤ max_slots) × (zeros ≤ slots) × (clen ≤ 8) }
     ensures { result ≡ plan_of rows slots zeros clen }

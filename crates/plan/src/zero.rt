@@ -5,7 +5,7 @@ ghost use Rattle.answers.specs.Table.{pick};
 ghost use Rattle.plan.specs.Tally.{raise};
 ghost use Rattle.plan.specs.Zero.{is_zero};
 
-// 1 for +0.0 and -0.0, by their bits, and 0 for every other number.
+// 1 for +0.0 and -0.0, by their bits, and 0 for every other number: a number, since it is summed.
 pub fn zero_of(value: u64) -> usize
     ensures { result ≡ pick (is_zero value) 1 0 }
 {

@@ -1,3 +1,4 @@
+pub mod Params
 pub mod Spanned
 pub mod Order
 pub mod Power

@@ -1,6 +1,6 @@
 -- The answers over a range, in their order: 4 for a length that is not 1 to 8, 9 for a bad range, 2 for a slice of
 -- another length; 4 and 2 as `imapb` has them.
-use Rattle.std.specs.Prelude.{ℕ, List, [], pos, nat_le, Float}
+use Rattle.std.specs.Prelude.{ℕ, List, [], pos, nat_le, Float, Err, Ok, Result}
 use Rattle.std.specs.Float.{binary64}
 use Rattle.std.specs.Float.Ieee.{add, sub, mul, of_int}
 use Rattle.answers.specs.Table.{Answer, answer, pick, passes, next}
@@ -13,9 +13,8 @@ use Rattle.imapb.specs.declared.decode.DecodedImapb.TheVariants.{Value, OutOfRan
 use Rattle.imapb.specs.Special.{unless_special}
 use Rattle.imapb.specs.Tables.{Reading, refused, length_rule, slice_rule, code_rules, read_unless}
 use Rattle.ranges.specs.declared.mapping.RangeMapping.{RangeMapping}
-use Rattle.ranges.specs.declared.mapping.ImapbRange.{ImapbRange}
-use Rattle.ranges.specs.declared.mapping.ImapbRange.TheVariants.{Of, Refused}
 use Rattle.ranges.specs.Range.{good_range, step_in, offset_in, top_in, reading_in}
+use Rattle.answers.specs.declared.Refusal.{Refusal}
 
 abbrev pub range_rule : Float → Float → Answer
 range_rule min max = pick (good_range min max) passes (answer 9 [])
@@ -30,9 +29,9 @@ abbrev pub mapping_in : Float → Float → ℕ → RangeMapping
 mapping_in min max L =
     record { length = L; min = min; step = step_in min max L; offset = offset_in min max L; top = top_in min max L }
 
-abbrev pub range_listed : ImapbRange → Outcome RangeMapping
-range_listed (Of m) = found m
-range_listed (Refused r) = outcome.refused (listed r)
+abbrev pub range_listed : Result RangeMapping Refusal → Outcome RangeMapping
+range_listed (Ok m) = found m
+range_listed (Err r) = outcome.refused (listed r)
 
 abbrev pub worked_out : Float → Float → ℕ → Outcome RangeMapping
 worked_out min max L = unless (next (length_rule L) (range_rule min max)) (mapping_in min max L)

@@ -3,10 +3,10 @@ ghost use Rattle.std.specs.Prelude.{◌≡◌};
 ghost use Rattle.imapb.specs.Tables.{imapb_listed};
 ghost use Rattle.ranges.specs.Tables.{mapped_number, mapped_read, range_listed, worked_read, imapb_read_in};
 
-use crate::mapping::{ImapbRange, RangeMapping, range_mapping};
+use crate::mapping::{RangeMapping, range_mapping};
 use crate::range::ImapbParams;
-use answers::Check;
-use imapb::decode::{DecodedImapb, ImapbRead, check_code, unless_special};
+use answers::Refusal;
+use imapb::decode::{DecodedImapb, check_code, unless_special};
 use numbers::words::read_be;
 use std::num::nearest_u64_to_f64;
 
@@ -23,28 +23,26 @@ fn number_of(mapping: RangeMapping, y: u64) -> DecodedImapb
 }
 
 // What the code reads as, by what its range and its length decide.
-fn decode_mapped(mapping: RangeMapping, bytes: &[u8]) -> ImapbRead
+fn decode_mapped(mapping: RangeMapping, bytes: &[u8]) -> Result<DecodedImapb, Refusal>
     ensures { imapb_listed result ≡ mapped_read mapping bytes.now }
 {
-    if let Check::Refused(refusal) = check_code(mapping.length, bytes) {
-        return ImapbRead::Refused(refusal);
-    }
+    check_code(mapping.length, bytes)?;
     let y = read_be(bytes);
-    ImapbRead::Done(unless_special(mapping.length, y, number_of(mapping, y)))
+    Ok(unless_special(mapping.length, y, number_of(mapping, y)))
 }
 
 // What the code reads as, over a range that has been worked out.
-pub fn decode_worked_out(range: ImapbRange, bytes: &[u8]) -> ImapbRead
+pub fn decode_worked_out(
+    range: Result<RangeMapping, Refusal>,
+    bytes: &[u8],
+) -> Result<DecodedImapb, Refusal>
     ensures { imapb_listed result ≡ worked_read (range_listed range) bytes.now }
 {
-    match range {
-        ImapbRange::Of(mapping) => decode_mapped(mapping, bytes),
-        ImapbRange::Refused(refusal) => ImapbRead::Refused(refusal),
-    }
+    decode_mapped(range?, bytes)
 }
 
 // What the code reads as, over the range.
-pub fn decode_imapb_in(params: ImapbParams, bytes: &[u8]) -> ImapbRead
+pub fn decode_imapb_in(params: ImapbParams, bytes: &[u8]) -> Result<DecodedImapb, Refusal>
     ensures { imapb_listed result
         ≡ imapb_read_in params.min params.max params.length bytes.now }
 {

@@ -1,4 +1,5 @@
-//! ST 1201.5's mapping over any range: what a range and a length decide, worked out once, and what a code then reads as.
+//! ST 1201.5's mapping over any range: what a range and a length decide, worked out once, and what a code then reads
+//! as.
 #![tactic(auto)]
 
 pub mod decode;

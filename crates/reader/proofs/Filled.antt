@@ -7,12 +7,11 @@ use native.Mathlib.Nat.{suc-mul}
 use native.Mathlib.Numerals.{add-one}
 use native.Mathlib.Omega.{arith}
 use lib.ListN.{length}
+use Rattle.std.specs.Prelude.{Err, Ok, Result}
 use Rattle.answers.specs.declared.Refusal.{Refusal}
 use Rattle.answers.specs.Outcome.{Outcome, found}
 use Rattle.answers.proofs.Outcome.{found-one, found-not-refused}
 use Rattle.layout.specs.declared.control.ParseControl.{ParseControl}
-use Rattle.elements.specs.declared.number.Number.{Number}
-use Rattle.elements.specs.declared.number.Number.TheVariants.{Bits, Refused}
 use Rattle.elements.specs.Numbers.{number_listed}
 use Rattle.elements.proofs.Parts.{element-held, ends}
 use Rattle.deviations.specs.Range.{row_part}
@@ -26,11 +25,11 @@ pub record Turn (bytes : List ℕ) (number : Outcome ℕ) (value moved next : �
   pub within : moved ≤ length bytes
 
 -- an answer that lists so holds that value, and no refusal
-module _ {bytes : List ℕ} {number : Outcome ℕ} {value moved next : ℕ} (t : Turn bytes number value moved next) {a : Number} (e : number_listed a ≡ number) where
-  pub turn-value : {x : ℕ} → a ≡ Bits x → x ≡ value
+module _ {bytes : List ℕ} {number : Outcome ℕ} {value moved next : ℕ} (t : Turn bytes number value moved next) {a : Result ℕ Refusal} (e : number_listed a ≡ number) where
+  pub turn-value : {x : ℕ} → a ≡ Ok x → x ≡ value
   turn-value h = found-one (sym (ap number_listed h) ∙ e ∙ t.read)
 
-  pub turn-never : {r : Refusal} → a ≡ Refused r → ⊥
+  pub turn-never : {r : Refusal} → a ≡ Err r → ⊥
   turn-never h = found-not-refused (sym (ap number_listed h) ∙ e ∙ t.read)
 
 module _ (bytes : List ℕ) (at : ℕ) (c : ParseControl) (f : Form) where

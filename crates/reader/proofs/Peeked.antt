@@ -4,7 +4,7 @@ use mathlib.Core.Path.{◌≡◌, refl}
 use mathlib.Core.List.{List}
 use Prim.Native.Nat.{ℕ}
 use borrow.Author.Tests.{ne_eqb}
-use Rattle.layout.specs.declared.size.Peek.TheVariants.{Nothing}
+use Rattle.std.specs.Prelude.{None, Option}
 use Rattle.layout.specs.Size.{peeked, fit_rules}
 use Rattle.layout.proofs.Peek.{peek-nothing}
 use Rattle.answers.specs.Table.{next}
@@ -18,14 +18,14 @@ use Rattle.rules.proofs.Held.{Rooms, rooms}
 use Rattle.codes.specs.Store.{store_rules}
 use Rattle.reader.specs.Rules.{done, read_answer_in, read_answer}
 
-pub nothing-refused : (bytes : List ℕ) (ds cs ss : ℕ) → peeked bytes ≡ Nothing
+pub nothing-refused : (bytes : List ℕ) (ds cs ss : ℕ) → peeked bytes ≡ None
     → (read_answer bytes ds cs ss ≡ fit_rules bytes) × ((read_answer bytes ds cs ss).number ≡ 0 → ⊥)
 nothing-refused bytes ds cs ss e =
     let f = ne_eqb (fit_rules bytes).number 0 (peek-nothing bytes e) in
     rw (f, f, f) (refl, peek-nothing bytes e)
 
 -- and where the reader refuses nothing, it is done, and a) to g) have passed
-module _ (range : DeviationRange) (bytes : List ℕ) (ds cs ss : ℕ) (z : (read_answer_in range bytes ds cs ss).number ≡ 0) where
+module _ (range : Option DeviationRange) (bytes : List ℕ) (ds cs ss : ℕ) (z : (read_answer_in range bytes ds cs ss).number ≡ 0) where
   passed : (store_rules range bytes ds cs ss).number ≡ 0
   passed = (next-zero (store_rules range bytes ds cs ss) (done (head_of bytes)) z).0
 

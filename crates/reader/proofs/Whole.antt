@@ -6,6 +6,7 @@ use mathlib.Core.List.{List}
 use Prim.Native.Nat.{ℕ, ◌≤◌}
 use native.Mathlib.Omega.{arith}
 use lib.ListN.{length}
+use Rattle.std.specs.Prelude.{Err, Ok, Result, Option}
 use Rattle.answers.specs.Lent.{over, tab, leaves}
 use Rattle.answers.specs.Listed.{listed}
 use Rattle.answers.specs.Outcome.{Outcome, found, refused}
@@ -18,7 +19,7 @@ use Rattle.answers.proofs.Rules.{by_bool}
 use Rattle.answers.proofs.Outcome.{refused-tells}
 use Rattle.layout.specs.Triangle.{slots_of}
 use Rattle.layout.specs.declared.pack.SdccFlp.{SdccFlp}
-use Rattle.elements.specs.declared.head.Head.{Head}
+use Rattle.layout.specs.declared.header.Head.{Head}
 use Rattle.elements.specs.declared.head.Places.{Places}
 use Rattle.elements.specs.Elements.{head_of, places_of, codes_at, deviations_at, deviation_count, slot_in, correlations, states}
 use Rattle.elements.specs.Held.{SlotsHeld}
@@ -33,13 +34,11 @@ use Rattle.rules.specs.Decided.{Ready, ready, ready_of}
 use Rattle.rules.proofs.Held.{Held, rooms}
 use Rattle.codes.specs.Store.{store_rules, store_ready, by_words}
 use Rattle.codes.proofs.Whole.{lent-passes, all_held, Left, places-told, both-pass, slots-there}
-use Rattle.reader.specs.declared.read.ReadAnswer.{ReadAnswer}
-use Rattle.reader.specs.declared.read.ReadAnswer.TheVariants.{Done, Refused}
 use Rattle.reader.specs.Listed.{read_listed}
 use Rattle.reader.specs.Rules.{done, read_answer_in}
 use Rattle.reader.specs.Rows.{RowsHeld, form_in}
 
-module _ (range : DeviationRange) (bytes ds cs ss : List ℕ) where
+module _ (range : Option DeviationRange) (bytes ds cs ss : List ℕ) where
   abbrev h : Head
   h = head_of bytes
 
@@ -47,7 +46,7 @@ module _ (range : DeviationRange) (bytes ds cs ss : List ℕ) where
   rules = store_rules range bytes (length ds) (length cs) (length ss)
 
   -- what the reader's contract says of lent memory
-  abbrev pub Meets : ReadAnswer → List ℕ → List ℕ → List ℕ → Type 0
+  abbrev pub Meets : Result SdccFlp Refusal → List ℕ → List ℕ → List ℕ → Type 0
   Meets x ds' cs' ss' =
       (read_listed x ≡ read_answer_in range bytes (length ds) (length cs) (length ss))
       × (ds' ≡ leaves (read_listed x) (deviations_over range bytes h) ds)
@@ -57,7 +56,7 @@ module _ (range : DeviationRange) (bytes ds cs ss : List ℕ) where
   -- what is left of the slots' memory, by the rules
   module _ {cs' ss' : List ℕ} (p : cs' ≡ leaves rules (correlations bytes h) cs) (q : ss' ≡ leaves rules (states bytes h) ss) where
     -- a refusal: all as it was
-    pub kept : (r : Refusal) → refused (listed r) ≡ store_ready range bytes (length ds) (length cs) (length ss) → Meets (Refused r) ds cs' ss'
+    pub kept : (r : Refusal) → refused (listed r) ≡ store_ready range bytes (length ds) (length cs) (length ss) → Meets (Err r) ds cs' ss'
     kept r o =
         let e : rules ≡ listed r = refused-tells rules (ready_of range bytes) o in
         (rw (e, refused-not-done r), sym (refused-leaves r (deviations_over range bytes h) ds), rw e at p, rw e at q)
@@ -94,12 +93,12 @@ module _ (range : DeviationRange) (bytes ds cs ss : List ℕ) where
 
       pub stored : {pack : SdccFlp} {ds' : List ℕ} → pack ≡ pack_of a.head
           → ds' ≡ over (tab (deviation_count a.head) (form_in bytes a.deviations a.head.control f)) ds
-          → Meets (Done pack) ds' cs' ss'
+          → Meets (Ok pack) ds' cs' ss'
       stored k e =
           rw k (rw are (sym (next-passed rules (done h) told.0)), rw (are, form, same-deviations) at e, rw told.0 at p, rw told.0 at q)
 
 -- ---- the slots that are left to the plain way
-module _ (range : DeviationRange) (bytes : List ℕ) (ds : ℕ) (cs ss : List ℕ) where
+module _ (range : Option DeviationRange) (bytes : List ℕ) (ds : ℕ) (cs ss : List ℕ) where
   abbrev by-rules : Answer
   by-rules = store_rules range bytes ds (length cs) (length ss)
 

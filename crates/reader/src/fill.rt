@@ -5,9 +5,10 @@ ghost use Rattle.elements.specs.Numbers.{number_listed};
 ghost use Rattle.deviations.specs.Form.{form_listed, form_number};
 ghost use Rattle.reader.specs.Rows.{RowsHeld, form_in};
 
+use answers::Refusal;
 use deviations::form::DeviationForm;
 use deviations::number::deviation_in;
-use elements::number::{Number, deviation_at};
+use elements::number::deviation_at;
 use layout::control::ParseControl;
 
 // The deviation of a row. One that is as the pack says goes without the range, which is long to hand on.
@@ -17,7 +18,7 @@ fn deviation_of(
     control: ParseControl,
     form: DeviationForm,
     row: usize,
-) -> Number
+) -> Result<u64, Refusal>
     ensures { number_listed result ≡ form_number bytes.now at control (form_listed form) row }
 {
     if let DeviationForm::Plain = form {
@@ -41,15 +42,13 @@ pub(crate) fn fill_deviations(
 {
     let size = control.slen as usize;
     let mut next = at;
-    let mut i: usize = 0;
-    while i < count {
+    for i in 0..count {
         let number = deviation_of(bytes, next, control, form, i);
         // never: every deviation has been decided
-        let Number::Bits(x) = number else {
+        let Ok(x) = number else {
             return;
         };
         out[i] = x;
         next += size;
-        i += 1;
     }
 }

@@ -5,7 +5,7 @@ ghost use Rattle.elements.specs.Elements.{slot_in};
 ghost use Rattle.elements.specs.Held.{SlotsHeld};
 
 use elements::present::is_present;
-use elements::slot::{SlotRead, slot_at};
+use elements::slot::slot_at;
 use layout::control::ParseControl;
 
 // Slot by slot, in every format.
@@ -27,12 +27,11 @@ pub(crate) fn fill_plain(
 {
     let size = control.clen as usize;
     let mut next = codes;
-    let mut k: usize = 0;
-    while k < slots {
+    for k in 0..slots {
         let present = is_present(bytes, vector, control, k);
         let read = slot_at(bytes, next, control, present);
         // never: every slot has been decided
-        let SlotRead::Done(slot) = read else {
+        let Ok(slot) = read else {
             return;
         };
         correlations[k] = slot.bits;
@@ -40,6 +39,5 @@ pub(crate) fn fill_plain(
         if present {
             next += size;
         }
-        k += 1;
     }
 }

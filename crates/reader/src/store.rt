@@ -6,6 +6,7 @@ ghost use Rattle.rules.specs.Decided.{decided_listed};
 ghost use Rattle.codes.specs.Store.{store_rules, store_ready};
 
 use crate::plain::fill_plain;
+use answers::Refusal;
 use codes::store::{by_words, store_mapped};
 use deviations::form::DeviationRange;
 use layout::triangle::corr_slots;
@@ -14,11 +15,11 @@ use rules::decide::Decided;
 // Rules a) to l), with so much room for deviations, and then the slots.
 pub(crate) fn store_slots(
     bytes: &[u8],
-    range: DeviationRange,
+    range: Option<DeviationRange>,
     room: usize,
     correlations: &mut [u64],
     states: &mut [u8],
-) -> Decided
+) -> Result<Decided, Refusal>
     ensures { (decided_listed result
         ≡ store_ready range bytes.now room (length correlations.old)
         (length states.old))
@@ -31,13 +32,11 @@ pub(crate) fn store_slots(
         (length states.old))
         (states_of bytes.now (head_of bytes.now)) states.old) }
 {
-    let decided = store_mapped(bytes, range, room, correlations, states);
-    let Decided::Pack { places, form: _ } = decided else {
-        return decided;
-    };
+    let decided = store_mapped(bytes, range, room, correlations, states)?;
+    let places = decided.places;
     let head = places.head;
     if by_words(head.control, places.codes) {
-        return decided;
+        return Ok(decided);
     }
     fill_plain(
         bytes,
@@ -48,5 +47,5 @@ pub(crate) fn store_slots(
         correlations,
         states,
     );
-    decided
+    Ok(decided)
 }

@@ -1,8 +1,8 @@
 -- The text of a pack that is refused: the rule, its place, the refusal, and one of fourteen sentences.
-use Rattle.std.specs.Prelude.{ℕ, Bool, List, [], ◌∷◌, ◌++◌, eqb, get_or}
+use Rattle.std.specs.Prelude.{ℕ, Bool, List, [], ◌∷◌, ◌++◌, eqb, get_or, Result, Ok, Err}
 use Rattle.answers.specs.Table.{Answer, pick, plains}
-use Rattle.layout.specs.declared.header.Header.{Header}
-use Rattle.layout.specs.declared.header.Header.TheVariants.{Open, Unreadable, Short}
+use Rattle.layout.specs.declared.header.Head.{Head}
+use Rattle.layout.specs.declared.header.HeaderError.{HeaderError}
 use Rattle.layout.specs.declared.rule.Rule.{Rule}
 use Rattle.layout.specs.declared.rule.Rule.TheVariants.{A, B, C, D, E, F, G, H, I, J, K}
 use Rattle.layout.specs.Header.{header_of}
@@ -59,10 +59,9 @@ facts n m s l a =
       third = carried_by a 2;
     }
 
-abbrev pub facts_by : Header → Answer → Facts
-facts_by (Open n control body) a = facts n (slots_of n) control.slen control.clen a
-facts_by Unreadable a = facts 0 0 0 0 a
-facts_by Short a = facts 0 0 0 0 a
+abbrev pub facts_by : Result Head HeaderError → Answer → Facts
+facts_by (Ok h) a = facts h.n (slots_of h.n) h.control.slen h.control.clen a
+facts_by (Err e) a = facts 0 0 0 0 a
 
 abbrev pub reason_text : Bool → List ℕ → Rule → ℕ → Answer → List ℕ
 reason_text lines bytes x place a =

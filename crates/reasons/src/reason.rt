@@ -2,17 +2,17 @@
 ghost use Rattle.std.specs.Prelude.{◌≡◌};
 ghost use Rattle.answers.specs.Listed.{listed};
 ghost use Rattle.layout.specs.Header.{header_of};
-ghost use Rattle.text.specs.Put.{Put};
+ghost use Rattle.text.specs.Page.{Adds};
 ghost use Rattle.reasons.specs.Reason.{letter_of, ruled_text, sentence_for, facts_by, reason_text};
 
 use crate::sentence::{Facts, put_sentence};
 use answers::Refusal;
 use answers::row::row_of;
-use layout::header::{Header, read_header};
+use layout::header::read_header;
 use layout::rule::Rule;
 use layout::triangle::corr_slots;
 use lines::refusal::put_refused;
-use text::put::{put_byte, put_named, put_text};
+use text::page::Page;
 
 fn letter_of(rule: Rule) -> u8
     ensures { result ≡ letter_of rule }
@@ -32,17 +32,17 @@ fn letter_of(rule: Rule) -> u8
     }
 }
 
-fn put_ruled(rule: Rule, place: usize, refusal: Refusal, at: usize, out: &mut [u8]) -> usize
-    ensures { Put (ruled_text rule place (listed refusal)) at out.old result out.new }
+fn put_ruled(rule: Rule, place: usize, refusal: Refusal, page: &mut Page<'_>)
+    ensures { Adds (ruled_text rule place (listed refusal)) page.old page.new }
 {
-    let begun = put_text(b"rule ", at, out);
-    let lettered = put_byte(letter_of(rule), begun, out);
-    let placed = put_named(b" ", place as u64, lettered, out);
-    let apart = put_byte(b' ', placed, out);
-    put_refused(refusal, apart, out)
+    page.text(b"rule ");
+    page.byte(letter_of(rule));
+    page.named(b" ", place as u64);
+    page.byte(b' ');
+    put_refused(refusal, page);
 }
 
-// The sentence for a rule and the number of its refusal: h) has two, and j) three.
+// The sentence for a rule and the number of its refusal: h) has two, and j) three. A number: its place in the table.
 fn sentence_for(rule: Rule, number: u64) -> usize
     ensures { result ≡ sentence_for rule number }
 {
@@ -75,13 +75,7 @@ fn facts_of(bytes: &[u8], refusal: Refusal) -> Facts
 {
     let row = row_of(refusal);
     let values = row.values;
-    let header = read_header(bytes);
-    let Header::Open {
-        n,
-        control,
-        body: _,
-    } = header
-    else {
+    let Ok(head) = read_header(bytes) else {
         return Facts {
             rows: 0,
             slots: 0,
@@ -93,10 +87,10 @@ fn facts_of(bytes: &[u8], refusal: Refusal) -> Facts
         };
     };
     Facts {
-        rows: n as u64,
-        slots: corr_slots(n),
-        slen: control.slen as u64,
-        clen: control.clen as u64,
+        rows: head.n as u64,
+        slots: corr_slots(head.n),
+        slen: head.control.slen as u64,
+        clen: head.control.clen as u64,
         first: values[0],
         second: values[1],
         third: values[2],
@@ -110,18 +104,16 @@ pub fn put_reason(
     rule: Rule,
     place: usize,
     refusal: Refusal,
-    at: usize,
-    out: &mut [u8],
-) -> usize
-    ensures { Put (reason_text lines bytes.now rule place (listed refusal))
-        at out.old result out.new }
+    page: &mut Page<'_>,
+)
+    ensures { Adds (reason_text lines bytes.now rule place (listed refusal))
+        page.old page.new }
 {
-    let ruled = put_ruled(rule, place, refusal, at, out);
+    put_ruled(rule, place, refusal, page);
     if lines {
         let row = row_of(refusal);
         let facts = facts_of(bytes, refusal);
-        let next = put_byte(b'\n', ruled, out);
-        return put_sentence(sentence_for(rule, row.number), facts, next, out);
+        page.byte(b'\n');
+        put_sentence(sentence_for(rule, row.number), facts, page);
     }
-    ruled
 }

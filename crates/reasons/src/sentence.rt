@@ -1,11 +1,10 @@
 //! A sentence as text: its letters up to the end, each itself or the number that it stands for.
 ghost use Rattle.std.specs.Prelude.{◌≡◌};
-ghost use Rattle.text.specs.Put.{Put};
+ghost use Rattle.text.specs.Page.{Adds};
 ghost use Rattle.reasons.specs.Sentences.{is_field, value_of, letter_text, sentence_text};
 
 use crate::table::{WIDTH, letter};
-use text::part::within;
-use text::put::{put_byte, put_decimal};
+use text::page::Page;
 
 // What the letters of a sentence stand for.
 #[derive(Clone, Copy)]
@@ -51,28 +50,24 @@ fn value(facts: Facts, letter: u8) -> u64
     }
 }
 
-fn put_letter(letter: u8, value: u64, at: usize, out: &mut [u8]) -> usize
-    ensures { Put (letter_text letter value) at out.old result out.new }
+fn put_letter(letter: u8, value: u64, page: &mut Page<'_>)
+    ensures { Adds (letter_text letter value) page.old page.new }
 {
     if is_field(letter) {
-        put_decimal(value, at, out)
+        page.decimal(value);
     } else {
-        put_byte(letter, at, out)
+        page.byte(letter);
     }
 }
 
-pub(crate) fn put_sentence(sentence: usize, facts: Facts, at: usize, out: &mut [u8]) -> usize
-    ensures { Put (sentence_text sentence facts) at out.old result out.new }
+pub(crate) fn put_sentence(sentence: usize, facts: Facts, page: &mut Page<'_>)
+    ensures { Adds (sentence_text sentence facts) page.old page.new }
 {
-    let mut next = within(at, out);
-    let mut i: usize = 0;
-    while i < WIDTH {
+    for i in 0..WIDTH {
         let letter = letter(sentence, i);
         if letter == b'|' {
-            return next;
+            return;
         }
-        next = put_letter(letter, value(facts, letter), next, out);
-        i += 1;
+        put_letter(letter, value(facts, letter), page);
     }
-    next
 }

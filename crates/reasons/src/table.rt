@@ -2,6 +2,8 @@
 ghost use Rattle.std.specs.Prelude.{◌≡◌};
 ghost use Rattle.reasons.specs.Sentences.{letter_of};
 
+use text::table::letter_in;
+
 // Words stand for themselves, L, M, N, P, Q, R and S for a number, and a bar for the end.
 const SENTENCES: [u8; COUNT * WIDTH] = *b"\
     The pack does not begin with a matrix size that can be read.||||||||||||||||||||||||||||||||||||\
@@ -27,11 +29,5 @@ const COUNT: usize = 14;
 pub(crate) fn letter(sentence: usize, i: usize) -> u8
     ensures { result ≡ letter_of sentence i }
 {
-    if COUNT <= sentence {
-        return b'|';
-    }
-    if WIDTH <= i {
-        return b'|';
-    }
-    SENTENCES[sentence * WIDTH + i]
+    letter_in(&SENTENCES, WIDTH, b'|', sentence, i)
 }

@@ -22,6 +22,7 @@ use replies::reply::{Reply, words};
 use requests::request::Request;
 use std::io;
 use std::io::Write;
+use text::page::Page;
 use text::part::within;
 
 // The requests that are answered by a form alone.
@@ -48,17 +49,17 @@ fn answer_given<W: Write>(
     request: Request,
     given: &[u8],
     lists: &mut [u64],
-    at: usize,
-    out: &mut [u8],
-) -> io::Result<usize> {
+    page: &mut Page<'_>,
+) -> io::Result<()> {
     let form = request.form;
     match form {
-        7 => Ok(put_print(given, at, out)),
-        8 | READ_IN | FROM_NPY => Ok(put_read(request, given, lists, at, out)),
-        WHY => Ok(put_account(false, given, at, out)),
-        SET => put_set(stream, request, given, at, out),
-        _ => Ok(put_reply(short(request, given, lists), at, out)),
+        7 => put_print(given, page),
+        8 | READ_IN | FROM_NPY => put_read(request, given, lists, page),
+        WHY => put_account(false, given, page),
+        SET => return put_set(stream, request, given, page),
+        _ => put_reply(short(request, given, lists), page),
     }
+    Ok(())
 }
 
 // Whether it is one of map, special, write and to-npy, which write into what is lent.
@@ -72,12 +73,12 @@ pub(crate) fn answer<W: Write>(
     request: Request,
     bytes: &mut [u8],
     lists: &mut [u64],
-    at: usize,
-    out: &mut [u8],
-) -> io::Result<usize> {
+    page: &mut Page<'_>,
+) -> io::Result<()> {
     if writes(request.form) {
-        return Ok(put_write(request, lists, bytes, at, out));
+        put_write(request, lists, bytes, page);
+        return Ok(());
     }
     let given = within(request.given as usize, bytes);
-    answer_given(stream, request, &bytes[..given], lists, at, out)
+    answer_given(stream, request, &bytes[..given], lists, page)
 }

@@ -10,15 +10,11 @@ use requests::limits::SLOTS;
 use requests::request::Request;
 use requests::states::states_of;
 use text::part::within;
-
-// The array comes from a call: the check would count the elements of one that is made where it is used.
-fn room_for_states() -> [u8; SLOTS] {
-    [0; SLOTS]
-}
+use text::room::room_of;
 
 // The states are listed as numbers, and lent as bytes.
 fn reply_to_usable(pack: SdccFlp, rows: &[u64], slots: &[u64], listed: &[u64]) -> Reply {
-    let mut room = room_for_states();
+    let mut room: [u8; SLOTS] = room_of(0);
     let stored = states_of(listed, &mut room);
     let count = within(stored, &room);
     let told = &room[..count];

@@ -1,13 +1,13 @@
 //! The requests on .npy files: to-npy, from-npy.
 use crate::lists::{correlations, deviations};
-use answers::Written;
+use answers::Refusal;
+use layout::pack::SdccFlp;
 use npy::import::import_npy;
 use npy_export::export::export_npy;
-use reader::read::ReadAnswer;
 use requests::request::Request;
 
 // N is taken as it is, whatever the lists hold.
-pub(crate) fn to_npy(request: Request, lists: &[u64], lent: &mut [u8]) -> Written {
+pub(crate) fn to_npy(request: Request, lists: &[u64], lent: &mut [u8]) -> Result<usize, Refusal> {
     let rows = deviations(lists, request.rows);
     let slots = correlations(lists, request.slots);
     export_npy(request.size, rows, slots, lent)
@@ -19,6 +19,6 @@ pub(crate) fn from_npy(
     deviations: &mut [u64],
     correlations: &mut [u64],
     states: &mut [u8],
-) -> ReadAnswer {
+) -> Result<SdccFlp, Refusal> {
     import_npy(file, deviations, correlations, states)
 }

@@ -18,8 +18,9 @@ use requests::limits::{BYTES, FILE, WORDS};
 use requests::request::read_request;
 use std::io;
 use std::io::Write;
+use text::page::Page;
 use text::part::within;
-use text::put::put_byte;
+use text::room::room_of;
 
 // A request of so many bytes in hex, with the words before them. Lists that fill all the words take less.
 const LINE: usize = 2 * BYTES + 128;
@@ -34,17 +35,16 @@ fn fitting(read: usize) -> usize {
 // The request, and its answer. What is held is written out when there is much of it.
 fn answer_line<W: Write>(
     stream: &mut W,
-    read: usize,
-    line: &mut [u8],
+    line: &mut Page<'_>,
     words: &mut [u64],
-    at: usize,
-    out: &mut [u8],
-) -> io::Result<usize> {
-    let count = within(fitting(read), line);
-    let request = read_request(&mut line[..count], words);
-    let answered = answer(stream, request, line, words, at, out)?;
-    let put = put_byte(b'\n', answered, out);
-    flush_above(stream, HELD, put, out)
+    page: &mut Page<'_>,
+) -> io::Result<()> {
+    let count = within(fitting(line.at), line.room);
+    line.at = 0;
+    let request = read_request(&mut line.room[..count], words);
+    answer(stream, request, line.room, words, page)?;
+    page.byte(b'\n');
+    flush_above(stream, HELD, page)
 }
 
 // Answers each line that the block ends, and says how much of the next is read. What a line has no room for is dropped.
@@ -57,44 +57,29 @@ fn feed<W: Write>(
     words: &mut [u64],
     out: &mut [u8],
 ) -> io::Result<usize> {
-    let mut read = begun;
-    let mut at: usize = 0;
-    let mut i: usize = 0;
-    while i < block.len() {
-        let byte = block[i];
-        i += 1;
+    let mut line = Page::new(begun, line);
+    let mut page = Page::new(0, out);
+    for &byte in block {
         if byte == b'\n' {
-            at = answer_line(stream, read, line, words, at, out)?;
-            read = 0;
+            answer_line(stream, &mut line, words, &mut page)?;
         } else {
-            read = put_byte(byte, read, line);
+            line.byte(byte);
         }
     }
-    flush_above(stream, 0, at, out)?;
-    Ok(read)
+    flush_above(stream, 0, &mut page)?;
+    Ok(line.at)
 }
 
-// The arrays come from calls: the check would count the elements of one that `main` makes itself.
-fn room_for_block() -> [u8; HELD] {
-    [0; HELD]
-}
-
-fn room_for_words() -> [u64; WORDS] {
-    [0; WORDS]
-}
-
-// The turns are counted down, from a number that no run uses up, since nothing says that the input ends.
+// The turns are counted, up to a number that no run comes to, since nothing says that the input ends.
 fn main(rt: HostRuntime) -> io::Result<()> {
-    let mut block = room_for_block();
-    let mut words = room_for_words();
+    let mut block: [u8; HELD] = room_of(0);
+    let mut words: [u64; WORDS] = room_of(0);
     // What a request writes goes where its line stood, and of that a file is lent the most. So large an array is made
     // here, since a call's own would stand beside it on the stack.
     let mut line = [0; FILE];
     let mut out = [0; OUT];
     let mut read: usize = 0;
-    let mut turns = u64::MAX;
-    while 0 < turns {
-        turns -= 1;
+    for _ in 0..u64::MAX {
         let got = refill(&mut rt.stdin(), &mut block, read)?;
         let end = within(got, &block);
         if end == 0 {

@@ -1,7 +1,9 @@
 //! The requests over a range, whose ends are given by their bits: mapped-in, read-in.
+use answers::Refusal;
+use layout::pack::SdccFlp;
 use ranges::decode::decode_imapb_in;
 use ranges::range::ImapbParams;
-use reader::read::{ReadAnswer, decode_sdcc_flp_in};
+use reader::read::decode_sdcc_flp_in;
 use replies::mapped::of_mapped;
 use replies::numeric::float_of;
 use replies::reply::Reply;
@@ -22,7 +24,7 @@ pub(crate) fn read_in(
     deviations: &mut [u64],
     correlations: &mut [u64],
     states: &mut [u8],
-) -> ReadAnswer {
+) -> Result<SdccFlp, Refusal> {
     let min = float_of(request.value);
     let max = float_of(request.second);
     decode_sdcc_flp_in(pack, min, max, deviations, correlations, states)

@@ -1,22 +1,17 @@
 //! The requests that read a pack or a file into what is lent: read, read-in, from-npy.
 use crate::files::from_npy;
 use crate::ranged::read_in;
-use reader::read::{ReadAnswer, decode_sdcc_flp};
+use answers::Refusal;
+use layout::pack::SdccFlp;
+use reader::read::decode_sdcc_flp;
 use replies::forms::{FROM_NPY, READ_IN};
 use requests::limits::{ROWS, SLOTS};
 use requests::request::Request;
 use shown::pack::{Lent, put_pack};
-use text::marks::{MARK, WORD, mark_words};
-use text::part::{within, within_words};
-
-// These rooms have the mark in every entry; the correlations are too many to be marked anew for each request.
-fn room_for_deviations() -> [u64; ROWS] {
-    [WORD; ROWS]
-}
-
-fn room_for_states() -> [u8; SLOTS] {
-    [MARK; SLOTS]
-}
+use text::marks::{Marked, mark};
+use text::page::Page;
+use text::part::within;
+use text::room::room_of;
 
 // A file, or a pack by the reader that is lent a range or by the one that is lent none.
 fn decode(
@@ -25,7 +20,7 @@ fn decode(
     deviations: &mut [u64],
     correlations: &mut [u64],
     states: &mut [u8],
-) -> ReadAnswer {
+) -> Result<SdccFlp, Refusal> {
     let form = request.form;
     match form {
         READ_IN => read_in(request, given, deviations, correlations, states),
@@ -42,10 +37,10 @@ fn read(
     deviations: &mut [u64],
     correlations: &mut [u64],
     states: &mut [u8],
-) -> ReadAnswer {
-    mark_words(correlations, lent.correlations);
-    let rows = within_words(lent.deviations as usize, deviations);
-    let slots = within_words(lent.correlations as usize, correlations);
+) -> Result<SdccFlp, Refusal> {
+    mark(correlations, lent.correlations);
+    let rows = within(lent.deviations as usize, deviations);
+    let slots = within(lent.correlations as usize, correlations);
     let told = within(lent.states as usize, states);
     decode(
         request,
@@ -60,11 +55,11 @@ pub(crate) fn put_read(
     request: Request,
     given: &[u8],
     correlations: &mut [u64],
-    at: usize,
-    out: &mut [u8],
-) -> usize {
-    let mut deviations = room_for_deviations();
-    let mut states = room_for_states();
+    page: &mut Page<'_>,
+) {
+    // with the mark in every entry; the correlations are too many to be marked anew for each request
+    let mut deviations: [u64; ROWS] = room_of(u64::MARK);
+    let mut states: [u8; SLOTS] = room_of(u8::MARK);
     let lent = Lent {
         deviations: request.rows,
         correlations: request.slots,
@@ -78,5 +73,5 @@ pub(crate) fn put_read(
         correlations,
         &mut states,
     );
-    put_pack(lent, read, &deviations, correlations, &states, at, out)
+    put_pack(lent, read, &deviations, correlations, &states, page);
 }

@@ -1,8 +1,9 @@
--- No second answer meets a contract: two that do are the same, with what they leave in lent memory.
+-- No second answer meets a contract: two that do are the same, with what they leave on a page.
 -- Assumes nothing.
 use mathlib.Core.Path.{sym, ◌∙◌}
 use Rattle.answers.specs.OneAnswer.{OneResult, OneAnswer}
-use Rattle.text.proofs.OneAnswer.{put_one}
+use Rattle.text.specs.Page.{filled}
+use Rattle.text.proofs.OneAnswer.{adds_one}
 use Rattle.replies.proofs.forms.letter.Reads as letter
 use Rattle.replies.proofs.forms.is_field.Reads as is_field
 use Rattle.replies.proofs.reply.one.Reads as one
@@ -89,5 +90,5 @@ of-set-one κs a r r' s s' p q = p ∙ sym q
 pub of-place-one : OneResult of-place.Learnt
 of-place-one κs a r r' s s' p q = p ∙ sym q
 
-pub put-reply-one : OneAnswer put-reply.Learnt (λ κs s. s.1.1.0.now)
-put-reply-one κs a r r' s s' p q = put_one p q
+pub put-reply-one : OneAnswer put-reply.Learnt (λ κs s. filled s.1.0.now)
+put-reply-one κs a r r' s s' p q = adds_one p q

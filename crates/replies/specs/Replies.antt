@@ -1,5 +1,5 @@
 -- Which reply what the codec answers has: the place of its form, and its values.
-use Rattle.std.specs.Prelude.{ℕ, ◌+◌, ◌-◌, ◌%◌, ◌^◌, Bool, get_or}
+use Rattle.std.specs.Prelude.{ℕ, ◌+◌, ◌-◌, ◌%◌, ◌^◌, Bool, get_or, Err, None, Ok, Some, Result, Option}
 use Rattle.std.specs.Float.{binary32, binary64}
 use Rattle.std.specs.Float.Ieee.{to_bits}
 use Rattle.answers.specs.Table.{pick}
@@ -7,32 +7,20 @@ use Rattle.answers.specs.Row.{row_of}
 use Rattle.answers.specs.declared.row.Row.{Row}
 use Rattle.answers.specs.declared.Refusal.{Refusal}
 use Rattle.answers.specs.declared.Refusal.TheVariants.{TruncatedField}
-use Rattle.answers.specs.declared.Written.{Written}
-use Rattle.answers.specs.declared.Written.TheVariants as written
 use Rattle.numbers.specs.Conversions.{converted}
 use Rattle.numbers.specs.declared.ber_oid.BerOid.{BerOid}
-use Rattle.numbers.specs.declared.ber_oid.BerOid.TheVariants.{Read, Unreadable}
 use Rattle.numbers.specs.declared.ber.BerLength.{BerLength}
-use Rattle.numbers.specs.declared.ber.BerLength.TheVariants as ber
 use Rattle.imapb.specs.declared.decode.DecodedImapb.{DecodedImapb}
 use Rattle.imapb.specs.declared.decode.DecodedImapb.TheVariants.{Value, Special, ReservedSpecial, OutOfRange}
-use Rattle.imapb.specs.declared.decode.ImapbRead.{ImapbRead}
-use Rattle.imapb.specs.declared.decode.ImapbRead.TheVariants as mapped
-use Rattle.layout.specs.declared.size.Peek.{Peek}
-use Rattle.layout.specs.declared.size.Peek.TheVariants.{Size, Nothing}
-use Rattle.reader.specs.declared.read.ReadAnswer.{ReadAnswer}
-use Rattle.reader.specs.declared.read.ReadAnswer.TheVariants as read
-use Rattle.matrix.specs.declared.lookup.Cell.{Cell}
-use Rattle.matrix.specs.declared.lookup.Cell.TheVariants as cell
 use Rattle.sets.specs.declared.pack.PackPlace.{PackPlace}
-use Rattle.sets.specs.declared.set.SetAnswer.{SetAnswer}
-use Rattle.sets.specs.declared.set.SetAnswer.TheVariants as set
+use Rattle.sets.specs.declared.set.SetCounts.{SetCounts}
 use Rattle.replies.specs.declared.reply.Reply.{Reply}
 use Rattle.replies.specs.Places.{refused_at, refused_bits_at, bits_at, bits32_at, oid_at, length_at, size_at, nothing_at}
 use Rattle.replies.specs.Places.{value_at, outside_at, reserved_at, number_at, no_at, yes_at}
 use Rattle.replies.specs.Places.{counts_at, set_counts_at, pack_at}
 use Rattle.replies.specs.Reply.{reply, one_reply, words_reply}
 use Rattle.replies.specs.Special.{special_reply}
+use Rattle.layout.specs.declared.pack.SdccFlp.{SdccFlp}
 
 -- ---- a refusal: its number, and its values in decimal, or in hex where they are the bits of binary64 numbers
 abbrev pub refused_form : ℕ → Bool → ℕ
@@ -57,20 +45,20 @@ narrow_reply bits = one_reply bits32_at (converted binary64 binary32 bits)
 abbrev pub front_reply : ℕ → ℕ → ℕ → ℕ → Reply
 front_reply form value taken count = reply form value (count - taken) 0 0
 
-abbrev pub oid_or : Reply → BerOid → ℕ → Reply
-oid_or unreadable (Read value taken) count = front_reply oid_at value taken count
-oid_or unreadable Unreadable count = unreadable
+abbrev pub oid_or : Reply → Option BerOid → ℕ → Reply
+oid_or unreadable (Some o) count = front_reply oid_at o.value o.taken count
+oid_or unreadable None count = unreadable
 
 -- of one that is unreadable refusal 1 with 0 and 0, and by the strict reading nothing
-abbrev pub oid_reply : BerOid → ℕ → Reply
+abbrev pub oid_reply : Option BerOid → ℕ → Reply
 oid_reply read count = oid_or (refused_reply (TruncatedField 0 0)) read count
 
-abbrev pub strict_oid_reply : BerOid → ℕ → Reply
+abbrev pub strict_oid_reply : Option BerOid → ℕ → Reply
 strict_oid_reply read count = oid_or (words_reply nothing_at) read count
 
-abbrev pub ber_reply : BerLength → ℕ → Reply
-ber_reply (ber.Read value taken) count = front_reply length_at value taken count
-ber_reply ber.Unreadable count = words_reply nothing_at
+abbrev pub ber_reply : Option BerLength → ℕ → Reply
+ber_reply (Some l) count = front_reply length_at l.value l.taken count
+ber_reply None count = words_reply nothing_at
 
 -- ---- a mapped value
 abbrev pub decoded_reply : DecodedImapb → Reply
@@ -79,37 +67,37 @@ decoded_reply (Special s) = special_reply s
 decoded_reply (ReservedSpecial raw) = one_reply reserved_at raw
 decoded_reply (OutOfRange x) = one_reply outside_at (to_bits binary64 x)
 
-abbrev pub mapped_reply : ImapbRead → Reply
-mapped_reply (mapped.Done d) = decoded_reply d
-mapped_reply (mapped.Refused r) = refused_reply r
+abbrev pub mapped_reply : Result DecodedImapb Refusal → Reply
+mapped_reply (Ok d) = decoded_reply d
+mapped_reply (Err r) = refused_reply r
 
 -- ---- a pack
-abbrev pub peek_reply : Peek → Reply
-peek_reply (Size n) = one_reply size_at n
-peek_reply Nothing = words_reply nothing_at
+abbrev pub peek_reply : Option ℕ → Reply
+peek_reply (Some n) = one_reply size_at n
+peek_reply None = words_reply nothing_at
 
 -- N, the deviation count and M
-abbrev pub read_reply : ReadAnswer → Reply
-read_reply (read.Done p) = reply counts_at p.matrix_size p.deviations p.slots 0
-read_reply (read.Refused r) = refused_reply r
+abbrev pub read_reply : Result SdccFlp Refusal → Reply
+read_reply (Ok p) = reply counts_at p.matrix_size p.deviations p.slots 0
+read_reply (Err r) = refused_reply r
 
-abbrev pub cell_reply : Cell → Reply
-cell_reply (cell.Number bits) = one_reply number_at bits
-cell_reply (cell.Refused r) = refused_reply r
+abbrev pub cell_reply : Result ℕ Refusal → Reply
+cell_reply (Ok bits) = one_reply number_at bits
+cell_reply (Err r) = refused_reply r
 
 abbrev pub usable_reply : Bool → Reply
 usable_reply usable = words_reply (pick usable yes_at no_at)
 
 -- ---- a set: how many packs and tags it has
-abbrev pub set_reply : SetAnswer → Reply
-set_reply (set.Done packs tags) = reply set_counts_at packs tags 0 0
-set_reply (set.Refused r) = refused_reply r
+abbrev pub set_reply : Result SetCounts Refusal → Reply
+set_reply (Ok c) = reply set_counts_at c.packs c.tags 0 0
+set_reply (Err r) = refused_reply r
 
 -- where a pack starts and ends in the set, and its tags in the list
 abbrev pub place_reply : PackPlace → Reply
 place_reply p = reply pack_at p.start p.end p.from p.to
 
 -- ---- what writes: the form of what is done, with the count of bytes
-abbrev pub written_reply : ℕ → Written → Reply
-written_reply form (written.Done count) = one_reply form count
-written_reply form (written.Refused r) = refused_reply r
+abbrev pub written_reply : ℕ → Result ℕ Refusal → Reply
+written_reply form (Ok count) = one_reply form count
+written_reply form (Err r) = refused_reply r

@@ -2,6 +2,8 @@
 ghost use Rattle.std.specs.Prelude.{◌≡◌};
 ghost use Rattle.replies.specs.Forms.{letter_of, is_field};
 
+use text::table::letter_in;
+
 // Words stand for themselves, a capital for a field of the request or a value of the reply, and a dot for the end.
 // A reply ends at a comma, which a request has none of: `special` is asked for as it is replied.
 const FORMS: [u8; 1416] = *b"\
@@ -67,8 +69,7 @@ const FORMS: [u8; 1416] = *b"\
 
 pub const WIDTH: usize = 24;
 
-const COUNT: usize = 59;
-
+// Numbers and no enum: a form is its place in the table, by which contracts find its letters (`letter_of`).
 // The requests come first: 0 to 6, 21 and 24 to 26 are replied to by a form, 7 is print, 8, 22 and 29 read, 9 to 20 and
 // 28 write, from 12 on the special kinds, 23 is why, and 27 is set.
 pub const CELL: usize = 5;
@@ -151,13 +152,7 @@ pub const NO_TAGS: usize = BAD_REQUEST + 28;
 pub fn letter(form: usize, i: usize) -> u8
     ensures { result ≡ letter_of form i }
 {
-    if COUNT <= form {
-        return b'.';
-    }
-    if WIDTH <= i {
-        return b'.';
-    }
-    FORMS[form * WIDTH + i]
+    letter_in(&FORMS, WIDTH, b'.', form, i)
 }
 
 pub fn is_field(letter: u8) -> bool

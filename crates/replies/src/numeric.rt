@@ -1,5 +1,5 @@
 //! The replies on numbers, and the number that bits are.
-ghost use Rattle.std.specs.Prelude.{◌≡◌, ◌-◌};
+ghost use Rattle.std.specs.Prelude.{◌≡◌};
 ghost use Rattle.std.specs.Float.{binary64};
 ghost use Rattle.std.specs.Float.Ieee.{of_bits};
 ghost use Rattle.replies.specs.Replies.{widen_reply, narrow_reply};
@@ -38,17 +38,6 @@ pub fn narrow(bits: u64) -> Reply
     one(BITS32, binary64_to_binary32(bits) as u64)
 }
 
-// How many bytes are left of so many.
-fn left_of(count: usize, taken: usize) -> u64
-    ensures { result ≡ count - taken }
-{
-    if taken < count {
-        (count - taken) as u64
-    } else {
-        0
-    }
-}
-
 // What was read at the front of so many bytes.
 fn front(form: usize, value: u64, taken: usize, count: usize) -> Reply
     ensures { result ≡ front_reply form value taken count }
@@ -56,23 +45,23 @@ fn front(form: usize, value: u64, taken: usize, count: usize) -> Reply
     Reply {
         form,
         a: value,
-        b: left_of(count, taken),
+        b: count.saturating_sub(taken) as u64,
         c: 0,
         d: 0,
     }
 }
 
 // The number, or the reply to one that is unreadable.
-fn oid_or(unreadable: Reply, read: BerOid, count: usize) -> Reply
+fn oid_or(unreadable: Reply, read: Option<BerOid>, count: usize) -> Reply
     ensures { result ≡ oid_or unreadable read count }
 {
     match read {
-        BerOid::Read { value, taken } => front(OID, value as u64, taken, count),
-        BerOid::Unreadable => unreadable,
+        Some(oid) => front(OID, oid.value as u64, oid.taken, count),
+        None => unreadable,
     }
 }
 
-pub fn of_oid(read: BerOid, count: usize) -> Reply
+pub fn of_oid(read: Option<BerOid>, count: usize) -> Reply
     ensures { result ≡ oid_reply read count }
 {
     let unreadable = refused(Refusal::TruncatedField { needed: 0, got: 0 });
@@ -80,17 +69,17 @@ pub fn of_oid(read: BerOid, count: usize) -> Reply
 }
 
 // Of the strict reading, which has no refusal of its own.
-pub fn of_strict_oid(read: BerOid, count: usize) -> Reply
+pub fn of_strict_oid(read: Option<BerOid>, count: usize) -> Reply
     ensures { result ≡ strict_oid_reply read count }
 {
     oid_or(words(NOTHING), read, count)
 }
 
-pub fn of_ber(read: BerLength, count: usize) -> Reply
+pub fn of_ber(read: Option<BerLength>, count: usize) -> Reply
     ensures { result ≡ ber_reply read count }
 {
     match read {
-        BerLength::Read { value, taken } => front(LENGTH, value, taken, count),
-        BerLength::Unreadable => words(NOTHING),
+        Some(length) => front(LENGTH, length.value, length.taken, count),
+        None => words(NOTHING),
     }
 }

@@ -4,14 +4,14 @@ ghost use Rattle.replies.specs.Replies.{written_reply};
 
 use crate::refusal::refused;
 use crate::reply::{Reply, one};
-use answers::Written;
+use answers::Refusal;
 
 // The form is that of what is done.
-pub fn of_written(form: usize, written: Written) -> Reply
+pub fn of_written(form: usize, written: Result<usize, Refusal>) -> Reply
     ensures { result ≡ written_reply form written }
 {
     match written {
-        Written::Done(count) => one(form, count as u64),
-        Written::Refused(refusal) => refused(refusal),
+        Ok(count) => one(form, count as u64),
+        Err(refusal) => refused(refusal),
     }
 }

@@ -5,40 +5,39 @@ ghost use Rattle.replies.specs.Replies.{peek_reply, read_reply, cell_reply, usab
 use crate::forms::{COUNTS, NO, NOTHING, NUMBER, SIZE, YES};
 use crate::refusal::refused;
 use crate::reply::{Reply, one, words};
-use layout::size::Peek;
-use matrix::lookup::Cell;
-use reader::read::ReadAnswer;
+use answers::Refusal;
+use layout::pack::SdccFlp;
 
-pub fn of_peek(peek: Peek) -> Reply
+pub fn of_peek(peek: Option<u32>) -> Reply
     ensures { result ≡ peek_reply peek }
 {
     match peek {
-        Peek::Size(n) => one(SIZE, n as u64),
-        Peek::Nothing => words(NOTHING),
+        Some(n) => one(SIZE, n as u64),
+        None => words(NOTHING),
     }
 }
 
-pub fn of_read(read: ReadAnswer) -> Reply
+pub fn of_read(read: Result<SdccFlp, Refusal>) -> Reply
     ensures { result ≡ read_reply read }
 {
     match read {
-        ReadAnswer::Done(pack) => Reply {
+        Ok(pack) => Reply {
             form: COUNTS,
             a: pack.matrix_size,
             b: pack.deviations as u64,
             c: pack.slots as u64,
             d: 0,
         },
-        ReadAnswer::Refused(refusal) => refused(refusal),
+        Err(refusal) => refused(refusal),
     }
 }
 
-pub fn of_cell(cell: Cell) -> Reply
+pub fn of_cell(cell: Result<u64, Refusal>) -> Reply
     ensures { result ≡ cell_reply cell }
 {
     match cell {
-        Cell::Number(bits) => one(NUMBER, bits),
-        Cell::Refused(refusal) => refused(refusal),
+        Ok(bits) => one(NUMBER, bits),
+        Err(refusal) => refused(refusal),
     }
 }
 

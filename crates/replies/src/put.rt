@@ -1,12 +1,11 @@
 //! A reply as text: its form's letters up to the end, each itself or the value that it stands for.
 ghost use Rattle.std.specs.Prelude.{◌≡◌};
-ghost use Rattle.text.specs.Put.{Put};
+ghost use Rattle.text.specs.Page.{Adds};
 ghost use Rattle.replies.specs.ReplyText.{value_of, hex_digits, value_text, letter_text, is_end, reply_text};
 
 use crate::forms::{WIDTH, is_field, letter};
 use crate::reply::Reply;
-use text::part::within;
-use text::put::{put_byte, put_decimal, put_hex};
+use text::page::Page;
 
 fn value(reply: Reply, letter: u8) -> u64
     ensures { result ≡ value_of reply letter }
@@ -30,24 +29,24 @@ fn hex_digits(letter: u8) -> usize
     }
 }
 
-fn put_value(letter: u8, value: u64, at: usize, out: &mut [u8]) -> usize
-    ensures { Put (value_text letter value) at out.old result out.new }
+fn put_value(letter: u8, value: u64, page: &mut Page<'_>)
+    ensures { Adds (value_text letter value) page.old page.new }
 {
     let digits = hex_digits(letter);
     if 0 < digits {
-        put_hex(value, digits, at, out)
+        page.hex(value, digits);
     } else {
-        put_decimal(value, at, out)
+        page.decimal(value);
     }
 }
 
-fn put_letter(letter: u8, value: u64, at: usize, out: &mut [u8]) -> usize
-    ensures { Put (letter_text letter value) at out.old result out.new }
+fn put_letter(letter: u8, value: u64, page: &mut Page<'_>)
+    ensures { Adds (letter_text letter value) page.old page.new }
 {
     if is_field(letter) {
-        put_value(letter, value, at, out)
+        put_value(letter, value, page);
     } else {
-        put_byte(letter, at, out)
+        page.byte(letter);
     }
 }
 
@@ -60,18 +59,14 @@ fn ends(letter: u8) -> bool
     }
 }
 
-pub fn put_reply(reply: Reply, at: usize, out: &mut [u8]) -> usize
-    ensures { Put (reply_text reply) at out.old result out.new }
+pub fn put_reply(reply: Reply, page: &mut Page<'_>)
+    ensures { Adds (reply_text reply) page.old page.new }
 {
-    let mut next = within(at, out);
-    let mut i: usize = 0;
-    while i < WIDTH {
+    for i in 0..WIDTH {
         let letter = letter(reply.form, i);
         if ends(letter) {
-            return next;
+            return;
         }
-        next = put_letter(letter, value(reply, letter), next, out);
-        i += 1;
+        put_letter(letter, value(reply, letter), page);
     }
-    next
 }

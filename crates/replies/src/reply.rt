@@ -3,7 +3,7 @@ ghost use Rattle.std.specs.Prelude.{◌≡◌};
 ghost use Rattle.replies.specs.Reply.{words_reply, one_reply};
 
 // The values that A, B, C and D stand for in decimal. X, Y and Z are the last three in hex, and W is in eight digits.
-#[derive(Clone, Copy)]
+#[derive(Clone, Copy, Debug, PartialEq, Eq)]
 pub struct Reply {
     pub form: usize,
     pub a: u64,

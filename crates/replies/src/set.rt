@@ -5,21 +5,22 @@ ghost use Rattle.replies.specs.Replies.{set_reply, place_reply};
 use crate::forms::{PACK, SET_COUNTS};
 use crate::refusal::refused;
 use crate::reply::Reply;
+use answers::Refusal;
 use sets::pack::PackPlace;
-use sets::set::SetAnswer;
+use sets::set::SetCounts;
 
-pub fn of_set(set: SetAnswer) -> Reply
+pub fn of_set(set: Result<SetCounts, Refusal>) -> Reply
     ensures { result ≡ set_reply set }
 {
     match set {
-        SetAnswer::Done { packs, tags } => Reply {
+        Ok(counts) => Reply {
             form: SET_COUNTS,
-            a: packs as u64,
-            b: tags as u64,
+            a: counts.packs as u64,
+            b: counts.tags as u64,
             c: 0,
             d: 0,
         },
-        SetAnswer::Refused(refusal) => refused(refusal),
+        Err(refusal) => refused(refusal),
     }
 }
 

@@ -11,11 +11,11 @@ use borrow.Author.Tests.{eqb-true, ltb-false}
 use lib.Dec.{eqb, ltb}
 use lib.ListN.{length, take, drop, get_or, get_or-eq_default}
 use lib.Seq.{take_at}
+use Rattle.std.specs.Prelude.{Err, Ok, Result, None}
 use Rattle.answers.specs.Lent.{tab, leaves}
 use Rattle.answers.specs.Listed.{listed, written}
 use Rattle.answers.specs.Table.{Answer}
 use Rattle.answers.specs.declared.Refusal.{Refusal}
-use Rattle.answers.specs.declared.Written.TheVariants as written_as
 use Rattle.answers.proofs.Lent.{length-tab, get_or-tab}
 use Rattle.answers.proofs.OneToOne.{refused-not-done}
 use Rattle.answers.proofs.Rules.{picked}
@@ -27,9 +27,6 @@ use Rattle.elements.specs.Elements.{head_of, deviation_count, deviations as devi
 use Rattle.elements.proofs.States.{state-most}
 use Rattle.reader.specs.Listed.{pack_answer, read_listed}
 use Rattle.reader.specs.Rules.{done, read_answer}
-use Rattle.deviations.specs.declared.form.DeviationRange.TheVariants.{Unknown}
-use Rattle.reader.specs.declared.read.ReadAnswer.{ReadAnswer}
-use Rattle.reader.specs.declared.read.ReadAnswer.TheVariants.{Done, Refused}
 use Rattle.rules.proofs.Held.{count-le}
 use Rattle.reader.proofs.Peeked.{read_done, read-rooms, read_fits}
 use Rattle.reader.proofs.Whole.{Meets}
@@ -54,7 +51,7 @@ answer-length most few bytes rows d c s =
     let h = head_of bytes in
     picked (λ (t : List ℕ). length t ≤ most_length most) (eqb (read_answer bytes d c s).number 0) _ _
     (λ t. let z = eqb-true (read_answer bytes d c s).number 0 t in
-    pack-length most few (said_size bytes) (deviations_of bytes h) (correlations_of bytes h) (states_of bytes h) (rows (read_fits Unknown bytes d c s z))
+    pack-length most few (said_size bytes) (deviations_of bytes h) (correlations_of bytes h) (states_of bytes h) (rows (read_fits None bytes d c s z))
     (rw length-tab (count-le h)) (one-digit _ (state-most bytes h.body (codes_at h) h.control) (slots_of (said_size bytes))))
     (λ _. line-length most (read_answer bytes d c s) (few-read bytes d c s))
 
@@ -68,10 +65,10 @@ pack-is : (bytes : List ℕ) (p : SdccFlp) → pack_answer p ≡ done (head_of b
 pack-is bytes p e = let c = ap (λ (a : Answer). a.carries) e in ((cc), (cc), (cc))
 
 -- ---- the reader's contract, where it was lent the rooms a, b, c
-pub record Lent (bytes a b c : List ℕ) (r : ReadAnswer) (ds cs ss : List ℕ) : Type 0 where
-  pub meets : Meets Unknown bytes a b c r ds cs ss
+pub record Lent (bytes a b c : List ℕ) (r : Result SdccFlp Refusal) (ds cs ss : List ℕ) : Type 0 where
+  pub meets : Meets None bytes a b c r ds cs ss
 
-module _ {bytes a b c : List ℕ} {r : ReadAnswer} {ds cs ss : List ℕ} (m : Lent bytes a b c r ds cs ss) where
+module _ {bytes a b c : List ℕ} {r : Result SdccFlp Refusal} {ds cs ss : List ℕ} (m : Lent bytes a b c r ds cs ss) where
   answer-is : read_listed r ≡ answered bytes a b c
   answer-is = m.meets.0
 
@@ -85,16 +82,16 @@ module _ {bytes a b c : List ℕ} {r : ReadAnswer} {ds cs ss : List ℕ} (m : Le
       }
 
   -- a refusal is printed as such
-  pub refused-lines : {f : Refusal} → r ≡ Refused f → refused_line (listed f) ≡ answer_lines bytes (answered bytes a b c)
+  pub refused-lines : {f : Refusal} → r ≡ Err f → refused_line (listed f) ≡ answer_lines bytes (answered bytes a b c)
   refused-lines {f} e = sym (ap (answer_lines bytes) (sym answer-is ∙ ap read_listed e) ∙ rw (refused-not-done f))
 
-  module _ {p : SdccFlp} (e : r ≡ Done p) where
+  module _ {p : SdccFlp} (e : r ≡ Ok p) where
     -- a pack that was read
     read-zero : (answered bytes a b c).number ≡ 0
     read-zero = sym (ap (λ (x : Answer). x.number) (sym (ap read_listed e) ∙ answer-is))
 
     read-pack : (p.matrix_size ≡ said_size bytes) × (p.deviations ≡ deviation_count (head_of bytes)) × (p.slots ≡ slots_of (said_size bytes))
-    read-pack = pack-is bytes p (sym (ap read_listed e) ∙ answer-is ∙ read_done Unknown bytes (length a) (length b) (length c) read-zero)
+    read-pack = pack-is bytes p (sym (ap read_listed e) ∙ answer-is ∙ read_done None bytes (length a) (length b) (length c) read-zero)
 
     listed-zero : (read_listed r).number ≡ 0
     listed-zero = ap (λ (x : Answer). x.number) answer-is ∙ read-zero
@@ -118,7 +115,7 @@ module _ {bytes a b c : List ℕ} {r : ReadAnswer} {ds cs ss : List ℕ} (m : Le
     -- the rooms hold them
     pub held : length ds ≡ length a → length cs ≡ length b → length ss ≡ length c → Held p ds cs ss
     held x y z =
-        let w = read-rooms Unknown bytes (length a) (length b) (length c) read-zero in
+        let w = read-rooms None bytes (length a) (length b) (length c) read-zero in
         let s = read-pack.2 in
         (rw read-pack.0 (sym s), omega (arith, read-pack.1, w.deviations), omega (arith, s, w.correlations), omega (arith, s, w.states))
 
@@ -153,5 +150,5 @@ printed-fits bytes =
     (λ f. omega (arith, most-slots, answer-length max_rows (omega arith) bytes (small-rows bytes f) max_rows max_slots max_slots))
 
 -- the length that is answered is within the room
-pub done-within : (bytes : List ℕ) (got : ℕ) {k : ℕ} → written (written_as.Done k) ≡ print_answer room (printed bytes) got → k ≤ room
+pub done-within : (bytes : List ℕ) (got : ℕ) {k : ℕ} → written (Ok k) ≡ print_answer room (printed bytes) got → k ≤ room
 done-within bytes got = print-within room (printed bytes) got (printed-fits bytes)

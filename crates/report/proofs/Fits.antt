@@ -8,18 +8,19 @@ use native.Mathlib.Numerals.{add-one}
 use native.Mathlib.Omega.{arith}
 use lib.Dec.{T, leb, leb→le}
 use lib.ListN.{length, get_or, length-append}
+use Rattle.std.specs.Prelude.{Result, Ok, Err, None}
 use Rattle.answers.specs.Lent.{joined}
 use Rattle.answers.specs.Table.{Entry, Answer, answer, pick}
 use Rattle.answers.proofs.Joined.{joined-le}
 use Rattle.answers.proofs.Rules.{picked}
-use Rattle.layout.specs.declared.header.Header.{Header}
-use Rattle.layout.specs.declared.header.Header.TheVariants.{Open, Unreadable, Short}
+use Rattle.layout.specs.declared.header.Head.{Head}
+use Rattle.layout.specs.declared.header.HeaderError.{HeaderError}
+use Rattle.layout.specs.declared.header.HeaderError.TheVariants.{Unreadable, Short}
 use Rattle.layout.specs.Header.{header_refusal}
 use Rattle.layout.specs.Triangle.{slots_of, slot_of}
 use Rattle.layout.proofs.Peek.{fit-answers, size-answers}
 use Rattle.layout.proofs.RowByRow.{row_next, row_within, slots-mono}
 use Rattle.elements.specs.Elements.{head_of}
-use Rattle.deviations.specs.declared.form.DeviationRange.TheVariants.{Unknown}
 use Rattle.reader.specs.Rules.{read_answer}
 use Rattle.rules.specs.Rules.{in_turn}
 use Rattle.rules.proofs.Named.{element-answers}
@@ -88,10 +89,10 @@ few-answer m es t = record { most = leb→le (length es) 3 t }
 pub few-pick : (t : Bool) (a b : Answer) → Few a → Few b → Few (pick t a b)
 few-pick t a b p q = picked Few t a b (λ _. p) (λ _. q)
 
-few_head : (h : Header) → Few (header_refusal h)
-few_head Unreadable = few-answer _ _ tt
-few_head Short = few-answer _ _ tt
-few_head (Open n control body) = few-answer _ _ tt
+few_head : (h : Result Head HeaderError) → Few (header_refusal h)
+few_head (Err Unreadable) = few-answer _ _ tt
+few_head (Err Short) = few-answer _ _ tt
+few_head (Ok head) = few-answer _ _ tt
 
 few-turns : (bytes : List ℕ) (at size : ℕ) (format : ℕ → Answer) → ((i : ℕ) → Few (format i)) → (n : ℕ) → Few (in_turn bytes at size format n)
 few-turns bytes at size format f zero = record { most = omega arith }
@@ -100,5 +101,5 @@ few-turns bytes at size format f (suc n) = let q = few-turns bytes at size forma
 -- and so is the reader's, whatever it is
 pub few-read : (bytes : List ℕ) (ds cs ss : ℕ) → Few (read_answer bytes ds cs ss)
 few-read bytes ds cs ss =
-    rw (fit-answers bytes, size-answers, element-answers Unknown bytes (head_of bytes))
+    rw (fit-answers bytes, size-answers, element-answers None bytes (head_of bytes))
     (search (few-answer, few-pick, few_head, few-turns) depth 20)

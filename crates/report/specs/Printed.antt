@@ -1,8 +1,6 @@
 -- Document 01, "The program": which lines are printed for which input.
-use Rattle.std.specs.Prelude.{ℕ, Bool, false, ◌||◌, List, ltb, length}
+use Rattle.std.specs.Prelude.{ℕ, Bool, false, ◌||◌, List, ltb, length, None, Some, Option}
 use Rattle.answers.specs.Table.{pick}
-use Rattle.layout.specs.declared.size.Peek.{Peek}
-use Rattle.layout.specs.declared.size.Peek.TheVariants.{Size, Nothing}
 use Rattle.layout.specs.Size.{peeked}
 use Rattle.reader.specs.Rules.{read_answer}
 use Rattle.report.specs.Lines.{too_big_line}
@@ -19,9 +17,9 @@ abbrev pub max_slots : ℕ
 max_slots = 2016
 
 -- an N that peek gives
-abbrev pub is_large : Peek → Bool
-is_large (Size n) = ltb max_rows n
-is_large Nothing = false
+abbrev pub is_large : Option ℕ → Bool
+is_large (Some n) = ltb max_rows n
+is_large None = false
 
 module _ (bytes : List ℕ) where
   abbrev pub is_too_big : Bool

@@ -6,7 +6,7 @@ use Prim.Native.Nat.{ℕ, suc, ◌+◌, ◌-◌, ◌≤◌, ◌<◌}
 use native.Mathlib.Omega.{arith}
 use lib.ListN.{length}
 use Rattle.text.specs.declared.numeral.Numeral.{Numeral}
-use Rattle.text.specs.declared.numeral.Numeral.TheVariants.{Read, Malformed}
+use Rattle.std.specs.Prelude.{Option, None, Some}
 use Rattle.replies.specs.Forms.{letter_of}
 use Rattle.replies.specs.Places.{bad_request}
 use Rattle.requests.specs.declared.request.Request.{Request}
@@ -38,16 +38,16 @@ module _ {line₀ words₀ : List ℕ} {form : ℕ} where
     pub reading-all : 24 ≤ i → Answers line₀ words₀ r line words
     reading-all h = let e : 24 - i ≡ 0 = omega arith in answers line₀ words₀ (rw e at p.rest)
 
-    module _ (h : i < 24) {l : ℕ} (e : l ≡ letter_of form i) {n : Numeral} {line' words' : List ℕ}
+    module _ (h : i < 24) {l : ℕ} (e : l ≡ letter_of form i) {n : Option Numeral} {line' words' : List ℕ}
         (f : (n ≡ field_at l line at words) × ((line' ≡ line_after_field l line at) × (words' ≡ words_after_field l line at words))) where
       one_left : 24 - i ≡ suc (24 - (i + 1))
       one_left = omega arith
 
-      pub reading-bad : {r' : Request} → n ≡ Malformed → r' ≡ unfilled bad_request → Answers line₀ words₀ r' line' words'
+      pub reading-bad : {r' : Request} → n ≡ None → r' ≡ unfilled bad_request → Answers line₀ words₀ r' line' words'
       reading-bad q u = answers line₀ words₀ (rw (f.1.0, f.1.1, u) (rw (one_left, ← e, sym f.0 ∙ q) at p.rest))
 
-      pub reading-more : {value next : ℕ} {r' : Request} → n ≡ Read value next → r' ≡ with l value r
-          → length line' ≡ length line → length words' ≡ length words → Reading line₀ words₀ form line' words' r' next (i + 1)
+      pub reading-more : {read : Numeral} {r' : Request} → n ≡ Some read → r' ≡ with l read.value r
+          → length line' ≡ length line → length words' ≡ length words → Reading line₀ words₀ form line' words' r' read.next (i + 1)
       reading-more q u a b =
           record {
             long = a ∙ p.long;

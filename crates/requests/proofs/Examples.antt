@@ -4,8 +4,8 @@ use mathlib.Core.Path.{◌≡◌, refl}
 use mathlib.Core.List.{List, [], ◌∷◌}
 use Prim.Native.Nat.{ℕ, ◌-◌, ◌^◌}
 use lib.ListN.{length, length-take, length-drop}
-use Rattle.text.specs.declared.numeral.Numeral.TheVariants.{Read, Malformed}
-use Rattle.text.specs.Numeral.{worth}
+use Rattle.std.specs.Prelude.{None, Some}
+use Rattle.text.specs.Numeral.{numeral, worth}
 use Rattle.text.specs.Text.{ascii}
 use Rattle.replies.specs.Forms.{forms}
 use Rattle.replies.specs.Places.{bad_request}
@@ -85,10 +85,10 @@ usable-read = refl
 
 -- where there is room for them: a state is a byte
 module _ (words : List ℕ) (h : length words ≡ words_lent) where
-  pub states-read : field_at 0x54 (ascii "2 1 255") 0 words ≡ Read 2 7
+  pub states-read : field_at 0x54 (ascii "2 1 255") 0 words ≡ Some (numeral 2 7)
   unfolding worth part_of list_of field_at
   states-read = rw (length-take, length-drop, h)
 
-  pub state-refused : field_at 0x54 (ascii "1 256") 0 words ≡ Malformed
+  pub state-refused : field_at 0x54 (ascii "1 256") 0 words ≡ None
   unfolding worth part_of list_of field_at
   state-refused = rw (length-take, length-drop, h)

@@ -10,6 +10,7 @@ use lib.Dec.{eqb}
 use lib.ListN.{length, take, drop, length-drop}
 use Rattle.answers.specs.Lent.{over}
 use Rattle.answers.proofs.Rules.{picked}
+use Rattle.std.specs.Prelude.{Option}
 use Rattle.text.specs.declared.numeral.Numeral.{Numeral}
 use Rattle.text.specs.Entries.{list_at, listed_at}
 use Rattle.requests.specs.declared.fields.Part.{Part}
@@ -51,7 +52,7 @@ module _ (part : Part) (h : part.start ≤ part.end) (words : List ℕ) {start e
       rw (Post-is start end words o, s, e, take_within part.start words, drop-within part.end words)
 
   -- what is read into it is the list
-  pub part-listed : (line : List ℕ) (at : ℕ) {r : Numeral} {m : List ℕ}
+  pub part-listed : (line : List ℕ) (at : ℕ) {r : Option Numeral} {m : List ℕ}
       → let lent = mid_of start (end - start) words in
       (r ≡ list_at part.entry (length lent) line at)
       × (m ≡ over (listed_at part.entry (length lent) line at) lent)

@@ -1,12 +1,11 @@
 -- The fields of a request, each read from a place of its line on.
-use Rattle.std.specs.Prelude.{ℕ, ◌+◌, ◌-◌, ◌*◌, ◌/◌, ◌^◌, Bool, ◌&&◌, ◌||◌, List, ◌++◌, eqb, leb, length, take, drop}
+use Rattle.std.specs.Prelude.{ℕ, Option, Some, ◌+◌, ◌-◌, ◌*◌, ◌/◌, ◌^◌, Bool, ◌&&◌, ◌||◌, List, ◌++◌, eqb, leb, length, take, drop}
 use Rattle.answers.specs.Lent.{over}
 use Rattle.answers.specs.Table.{pick}
 use Rattle.layout.specs.Size.{max_rows, max_slots}
 use Rattle.text.specs.declared.numeral.Entry.TheVariants.{Bits, UpTo}
 use Rattle.text.specs.declared.numeral.Numeral.{Numeral}
-use Rattle.text.specs.declared.numeral.Numeral.TheVariants.{Read}
-use Rattle.text.specs.Numeral.{hex_at, decimal_up_to, end_at, literal_at}
+use Rattle.text.specs.Numeral.{numeral, hex_at, decimal_up_to, end_at, literal_at}
 use Rattle.text.specs.Entries.{list_at, listed_at}
 use Rattle.text.specs.Strings.{string_at, bytes_at}
 use Rattle.requests.specs.declared.fields.Part.{Part}
@@ -42,13 +41,13 @@ most letter =
     (pick (eqb letter 0x4c) file_lent (pick (eqb letter 0x52) bytes_lent (2 ^ 64 - 1)))))
 
 -- `W` is a binary32, `X` and `Y` binary64, any capital up to `V` in decimal; a dot is the line's end, a comma nothing
-unfoldable pub number_at : ℕ → List ℕ → ℕ → Numeral
+unfoldable pub number_at : ℕ → List ℕ → ℕ → Option Numeral
 number_at letter line at =
     pick (eqb letter 0x57) (hex_at line at 8)
     (pick (eqb letter 0x58 || eqb letter 0x59) (hex_at line at 16)
     (pick (leb 0x41 letter && leb letter 0x56) (decimal_up_to (most letter) line at)
     (pick (eqb letter 0x2e) (end_at line at)
-    (pick (eqb letter 0x2c) (Read 0 at) (literal_at letter line at)))))
+    (pick (eqb letter 0x2c) (Some (numeral 0 at)) (literal_at letter line at)))))
 
 -- ---- a list: where it goes in the words, and how its entries are spelled
 -- the deviations, `S`, go first, the correlations, `C`, behind them, and the states, `T`, in decimal, last
@@ -62,7 +61,7 @@ part_of letter =
 abbrev pub room_of : Part → List ℕ → List ℕ
 room_of part words = take (part.end - part.start) (drop part.start words)
 
-abbrev pub list_in : Part → List ℕ → ℕ → List ℕ → Numeral
+abbrev pub list_in : Part → List ℕ → ℕ → List ℕ → Option Numeral
 list_in part line at words = list_at part.entry (length (room_of part words)) line at
 
 -- the words with the list in its part
@@ -71,7 +70,7 @@ words_in part line at words =
     let room : List ℕ = room_of part words in
     take part.start words ++ (over (listed_at part.entry (length room) line at) room ++ drop part.end words)
 
-unfoldable pub list_of : ℕ → List ℕ → ℕ → List ℕ → Numeral
+unfoldable pub list_of : ℕ → List ℕ → ℕ → List ℕ → Option Numeral
 list_of letter line at words = list_in (part_of letter) line at words
 
 unfoldable pub words_of : ℕ → List ℕ → ℕ → List ℕ → List ℕ
@@ -84,7 +83,7 @@ is_string letter = eqb letter 0x48
 abbrev pub is_list : ℕ → Bool
 is_list letter = eqb letter 0x43 || (eqb letter 0x53 || eqb letter 0x54)
 
-unfoldable pub field_at : ℕ → List ℕ → ℕ → List ℕ → Numeral
+unfoldable pub field_at : ℕ → List ℕ → ℕ → List ℕ → Option Numeral
 field_at letter line at words =
     pick (is_string letter) (string_at line at)
     (pick (is_list letter) (list_of letter line at words) (number_at letter line at))

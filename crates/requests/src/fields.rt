@@ -6,7 +6,7 @@ ghost use Rattle.requests.specs.Fields.{part_of, list_of, words_of};
 use crate::limits::{BYTES, FILE, ROWS, SLOTS, TAGS, WORDS};
 use text::list::list;
 use text::numeral::{Entry, Numeral, at_end, decimal_up_to, hex, literal};
-use text::part::within_words;
+use text::part::within;
 use text::string::byte_string;
 
 // The most that a field's number may be: a room is at most what there is.
@@ -24,7 +24,7 @@ fn most(letter: u8) -> u64
 }
 
 // The number that a letter stands for, or the letter itself.
-fn number(letter: u8, line: &[u8], at: usize) -> Numeral
+fn number(letter: u8, line: &[u8], at: usize) -> Option<Numeral>
     ensures { result ≡ number_at letter line.now at }
 {
     match letter {
@@ -32,7 +32,7 @@ fn number(letter: u8, line: &[u8], at: usize) -> Numeral
         b'X' | b'Y' => hex(line, at, 16),
         b'A'..=b'V' => decimal_up_to(most(letter), line, at),
         b'.' => at_end(line, at),
-        b',' => Numeral::Read { value: 0, next: at },
+        b',' => Some(Numeral { value: 0, next: at }),
         _ => literal(letter, line, at),
     }
 }
@@ -69,19 +69,19 @@ fn part_of(letter: u8) -> Part
 }
 
 // The list, into its part of the words.
-fn list_of(letter: u8, line: &[u8], at: usize, words: &mut [u64]) -> Numeral
+fn list_of(letter: u8, line: &[u8], at: usize, words: &mut [u64]) -> Option<Numeral>
     ensures value { result ≡ list_of letter line.now at words.old }
     ensures words_after { words.new ≡ words_of letter line.now at words.old }
 {
     let part = part_of(letter);
-    let start = within_words(part.start, words);
-    let end = within_words(part.end, words);
+    let start = within(part.start, words);
+    let end = within(part.end, words);
     let entry = part.entry;
     list(entry, line, at, &mut words[start..end])
 }
 
 // What a letter stands for.
-pub(crate) fn field(letter: u8, line: &mut [u8], at: usize, words: &mut [u64]) -> Numeral
+pub(crate) fn field(letter: u8, line: &mut [u8], at: usize, words: &mut [u64]) -> Option<Numeral>
     ensures value { result ≡ field_at letter line.old at words.old }
     ensures line_after { line.new ≡ line_after_field letter line.old at }
     ensures words_after { words.new ≡ words_after_field letter line.old at words.old }

@@ -8,16 +8,14 @@ use replies::forms::{BAD_REQUEST, is_field, letter};
 fn begins_as(form: usize, line: &[u8]) -> bool
     ensures { result ≡ begins_as form line.now }
 {
-    let mut i: usize = 0;
-    while i < line.len() {
+    for (i, &byte) in line.iter().enumerate() {
         let letter = letter(form, i);
         if is_field(letter) {
             return true;
         }
-        if line[i] != letter {
+        if byte != letter {
             return false;
         }
-        i += 1;
     }
     false
 }
@@ -26,12 +24,10 @@ fn begins_as(form: usize, line: &[u8]) -> bool
 pub(crate) fn form_of(line: &[u8]) -> usize
     ensures { result ≡ form_of line.now }
 {
-    let mut form: usize = 0;
-    while form < BAD_REQUEST {
+    for form in 0..BAD_REQUEST {
         if begins_as(form, line) {
             return form;
         }
-        form += 1;
     }
     BAD_REQUEST
 }

@@ -5,11 +5,11 @@ ghost use Rattle.requests.specs.Request.{unfilled, with, request_of, line_left, 
 use crate::fields::field;
 use crate::form::form_of;
 use replies::forms::{BAD_REQUEST, WIDTH, letter};
-use text::numeral::Numeral;
 
 // A request: its form, and what its fields say.
-#[derive(Clone, Copy)]
+#[derive(Clone, Copy, Debug, PartialEq, Eq)]
 pub struct Request {
+    // its place in the table of forms (replies)
     pub form: usize,
     // N: a matrix size, the length of a code or Clen
     pub size: u64,
@@ -73,16 +73,13 @@ pub fn read_request(line: &mut [u8], words: &mut [u64]) -> Request
     let form = form_of(line);
     let mut request = unfilled(form);
     let mut at: usize = 0;
-    let mut i: usize = 0;
-    while i < WIDTH {
+    for i in 0..WIDTH {
         let letter = letter(form, i);
-        let read = field(letter, line, at, words);
-        let Numeral::Read { value, next } = read else {
+        let Some(read) = field(letter, line, at, words) else {
             return unfilled(BAD_REQUEST);
         };
-        request = request.with(letter, value);
-        at = next;
-        i += 1;
+        request = request.with(letter, read.value);
+        at = read.next;
     }
     request
 }

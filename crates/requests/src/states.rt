@@ -12,10 +12,8 @@ pub fn states_of(words: &[u64], states: &mut [u8]) -> usize
         ≡ over (states_of words.now states.old) states.old }
 {
     let count = within(words.len(), states);
-    let mut i: usize = 0;
-    while i < count {
-        states[i] = (words[i] % 256) as u8;
-        i += 1;
+    for (i, &word) in words[..count].iter().enumerate() {
+        states[i] = (word % 256) as u8;
     }
     count
 }

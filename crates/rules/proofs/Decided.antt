@@ -10,10 +10,11 @@ use native.Mathlib.Omega.{arith}
 use borrow.Author.Tests.{lt-ltb, le-ltb, ne_eqb}
 use lib.Dec.{eqb}
 use lib.ListN.{length}
+use Rattle.std.specs.Prelude.{Option}
 use Rattle.answers.specs.Table.{Answer, answer, short, wholes, pick, passes}
 use Rattle.imapb.specs.Tables.{supported}
 use Rattle.layout.specs.declared.control.ParseControl.{ParseControl}
-use Rattle.elements.specs.declared.head.Head.{Head}
+use Rattle.layout.specs.declared.header.Head.{Head}
 use Rattle.elements.specs.Elements.{codes_at, present_count, is_ieee, ieee, part, code_slot}
 use Rattle.rules.specs.Turns.{turns_rule}
 use Rattle.elements.specs.Numbers.{refusal_of}
@@ -53,7 +54,7 @@ code-format c =
     (either (is_ieee c.clen) passes (answer 2 (wholes (0 ∷ c.clen ∷ []))) (inl refl) (inr refl))
 
 -- rule h) by the form that is worked out of a range and a control
-pub by_form : (range : DeviationRange) (bytes : List ℕ) (at : ℕ) (c : ParseControl) → (lent_rule range).number ≡ 0 → (n : ℕ)
+pub by_form : (range : Option DeviationRange) (bytes : List ℕ) (at : ℕ) (c : ParseControl) → (lent_rule range).number ≡ 0 → (n : ℕ)
     → form_rule bytes at c (form_of range c) n
     ≡ in_turn bytes at c.slen (λ i. format_over range c i (row_part bytes at c i)) n
 by_form range bytes at c z zero = refl

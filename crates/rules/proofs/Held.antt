@@ -10,13 +10,14 @@ use native.Mathlib.Omega.{arith}
 use borrow.Author.Tests.{eqb-true, eqb-false, ltb-false}
 use lib.Dec.{eqb, ltb}
 use lib.ListN.{length}
+use Rattle.std.specs.Prelude.{Option}
 use Rattle.answers.specs.Table.{Answer, short, passes, next}
 use Rattle.answers.proofs.Rules.{picked}
 use Rattle.answers.proofs.Next.{next-zero, Says, rules}
 use Rattle.layout.specs.Size.{max_rows, max_slots}
 use Rattle.layout.specs.Triangle.{slots_of}
 use Rattle.layout.proofs.RowByRow.{few-slots}
-use Rattle.elements.specs.declared.head.Head.{Head}
+use Rattle.layout.specs.declared.header.Head.{Head}
 use Rattle.elements.specs.Elements.{deviations_at, deviation_count, codes_at, present_count}
 use Rattle.elements.specs.Formats.{code_format}
 use Rattle.elements.specs.Numbers.{element_rule}
@@ -79,7 +80,7 @@ pub record Held (bytes : List ℕ) (h : Head) (f : Form) : Type 0 where
       → (form_format f h.control i (row_part bytes (deviations_at h) h.control i)).number ≡ 0
   pub slots : SlotsHeld bytes h.body (codes_at h) h.control (slots_of h.n)
 
-pub held : (range : DeviationRange) (bytes : List ℕ) (h : Head) → (lent_rule range).number ≡ 0 → Within bytes h
+pub held : (range : Option DeviationRange) (bytes : List ℕ) (h : Head) → (lent_rule range).number ≡ 0 → Within bytes h
     → (element_rules range bytes h).number ≡ 0 → Held bytes h (form_of range h.control)
 held range bytes h z w e =
     let k = h.control in

@@ -23,12 +23,14 @@ module _ (bytes : List ℕ) where
 
   module _ {p : Places} (o : pack p ≡ verdict bytes (fit_ruled bytes)) where
     -- h) to k), as they are asked of the places
-    behind : element_ruled (form_rule bytes p.deviations p.head.control plain (deviation_count p.head)) bytes p.head ≡ pack_ruled bytes
+    abbrev asked : Ruled
+    asked = element_ruled (form_rule bytes p.deviations p.head.control plain (deviation_count p.head)) bytes p.head
+
+    behind : asked ≡ pack_ruled bytes
     behind = let t = pack-tells bytes (fit_ruled bytes) o in rw t.1 (sym (pack-later bytes t.0))
 
-    module _ {u : Ruled} (e : u ≡ element_ruled (form_rule bytes p.deviations p.head.control plain (deviation_count p.head)) bytes p.head) where
-      pub judged-later : {x : Rule} {a : Answer} → u ≡ refused_by x a → refused x a ≡ verdict bytes (pack_ruled bytes)
-      judged-later h = rw (sym (e ∙ behind) ∙ h)
+    pub judged-later : {x : Rule} {a : Answer} → refused_by x a ≡ asked → refused x a ≡ verdict bytes (pack_ruled bytes)
+    judged-later e = rw (sym (e ∙ behind))
 
-      pub judged-pack : u ≡ passed → pack p ≡ verdict bytes (pack_ruled bytes)
-      judged-pack h = rw (sym (e ∙ behind) ∙ h, (pack-tells bytes (fit_ruled bytes) o).1)
+    pub judged-pack : passed ≡ asked → pack p ≡ verdict bytes (pack_ruled bytes)
+    judged-pack e = rw (sym (e ∙ behind), (pack-tells bytes (fit_ruled bytes) o).1)

@@ -4,6 +4,7 @@ use mathlib.Core.Path.{◌≡◌, refl}
 use mathlib.Core.List.{List, [], ◌∷◌}
 use Prim.Native.Nat.{ℕ}
 use lib.Dec.{eqb}
+use Rattle.std.specs.Prelude.{Option}
 use Rattle.answers.specs.Table.{Answer, next}
 use Rattle.answers.proofs.Next.{rules}
 use Rattle.answers.proofs.Rules.{picked}
@@ -12,7 +13,7 @@ use Rattle.layout.specs.declared.rule.Rule.TheVariants.{A, B, C, D, E, F, G, H, 
 use Rattle.layout.specs.Ruled.{Ruled, passed, refused_by, named, behind}
 use Rattle.layout.specs.Size.{fit_ruled}
 use Rattle.layout.proofs.Ruled.{unnamed-next, unnamed-last}
-use Rattle.elements.specs.declared.head.Head.{Head}
+use Rattle.layout.specs.declared.header.Head.{Head}
 use Rattle.elements.specs.Elements.{head_of}
 use Rattle.deviations.specs.declared.form.DeviationRange.{DeviationRange}
 use Rattle.rules.specs.Named.{rule_of, pack_ruled}
@@ -55,7 +56,7 @@ module _ (bytes : List ℕ) where
   pack-later e = rw e
 
 -- ---- the answers of h) to k), one behind the other
-module _ (range : DeviationRange) (bytes : List ℕ) (h : Head) where
+module _ (range : Option DeviationRange) (bytes : List ℕ) (h : Head) where
   pub element-answers : element_rules range bytes h ≡ next (rule_h range bytes h) (next (rule_i bytes h) (next (rule_j bytes h) (rule_k bytes h)))
   element-answers =
       unnamed-next H (rule_h range bytes h) _

@@ -8,13 +8,13 @@ use native.Mathlib.Omega.{arith}
 use borrow.Author.Tests.{eqb-true, eqb-false, ne_eqb}
 use lib.Dec.{eqb}
 use lib.ListN.{length, get_or}
+use Rattle.std.specs.Prelude.{None}
 use Rattle.answers.specs.Table.{Answer}
 use Rattle.answers.proofs.Rules.{picked}
 use Rattle.layout.specs.declared.rule.Rule.{Rule}
 use Rattle.layout.specs.declared.rule.Rule.TheVariants.{A, B, C, D, E, F, G, H, I, J, K}
 use Rattle.layout.specs.Ruled.{Ruled, passed, refused_by, unnamed}
 use Rattle.layout.specs.Size.{fit_ruled}
-use Rattle.deviations.specs.declared.form.DeviationRange.TheVariants.{Unknown}
 use Rattle.rules.specs.Named.{rule_of, pack_ruled, rank, RefusedBy}
 use Rattle.rules.specs.Rules.{pack_rules}
 use Rattle.rules.proofs.Named.{order, first_of, pack-first, pack-early, pack-later}
@@ -99,10 +99,10 @@ module _ (bytes : List ℕ) where
       go (refused_by y a) t = absurd (t.0.refuses (z y))
 
   -- ---- the same order without the names, as the reader has it that is lent no range
-  pub pack-unnamed : unnamed (pack_ruled bytes) ≡ pack_rules Unknown bytes
+  pub pack-unnamed : unnamed (pack_ruled bytes) ≡ pack_rules None bytes
   pack-unnamed = go (fit_ruled bytes) refl
     where
-      go : (u : Ruled) → fit_ruled bytes ≡ u → unnamed (pack_ruled bytes) ≡ pack_rules Unknown bytes
+      go : (u : Ruled) → fit_ruled bytes ≡ u → unnamed (pack_ruled bytes) ≡ pack_rules None bytes
       go passed e = rw (pack-later bytes e, e)
       go (refused_by x a) e =
           let r = refused-by (pack-early bytes e) in

@@ -6,6 +6,7 @@ use Prim.Native.Nat.{ℕ, suc, ◌+◌, ◌-◌, ◌*◌, ◌<◌}
 use lib.Dec.{ltb}
 use lib.ListN.{length}
 use Rattle.answers.specs.Listed.{listed}
+use Rattle.answers.specs.Outcome.{found, refused}
 use Rattle.answers.specs.Table.{Answer, short, wholes, passes}
 use Rattle.answers.specs.declared.Refusal.{Refusal}
 use Rattle.answers.proofs.Next.{IsRule, says-pick, says-refused}
@@ -13,9 +14,7 @@ use Rattle.answers.proofs.OneToOne.{refused-not-done}
 use Rattle.answers.proofs.Outcome.{found-tells, refused-tells}
 use Rattle.layout.specs.declared.control.ParseControl.{ParseControl}
 use Rattle.elements.specs.Elements.{part}
-use Rattle.elements.specs.Numbers.{number_listed, element_rule}
-use Rattle.elements.specs.declared.number.Number.{Number}
-use Rattle.elements.specs.declared.number.Number.TheVariants.{Bits, Refused}
+use Rattle.elements.specs.Numbers.{element_rule}
 use Rattle.deviations.specs.declared.form.DeviationForm.{DeviationForm}
 use Rattle.deviations.specs.Range.{row_part}
 use Rattle.deviations.specs.Form.{form_listed, form_format, form_number}
@@ -42,11 +41,10 @@ module _ (bytes : List ℕ) (at : ℕ) (c : ParseControl) (form : DeviationForm)
   up_to : form_rule bytes at c (form_listed form) (suc row) ≡ row_rule
   up_to = rw passed
 
-  module _ {r : Number} (e : number_listed r ≡ form_number bytes place c (form_listed form) row) where
-    pub row-passes : {b : ℕ} → r ≡ Bits b → form_rule bytes at c (form_listed form) (suc row) ≡ passes
-    row-passes h = up_to ∙ row-says.done (found-tells row_rule _ (rw h at e)).0
+  pub row-passes : {b : ℕ} → found b ≡ form_number bytes place c (form_listed form) row → form_rule bytes at c (form_listed form) (suc row) ≡ passes
+  row-passes e = up_to ∙ row-says.done (found-tells row_rule _ e).0
 
-    pub row-stops : {x : Refusal} → r ≡ Refused x → (n : ℕ) → row < n → listed x ≡ form_rule bytes at c (form_listed form) n
-    row-stops {x} h n l =
-        let k : form_rule bytes at c (form_listed form) (suc row) ≡ listed x = up_to ∙ refused-tells row_rule _ (rw h at e) in
-        sym (turns-stop bytes at c.slen (λ i. form_format (form_listed form) c i (row_part bytes at c i)) row n l (rw (k, refused-not-done x)) ∙ k)
+  pub row-stops : (x : Refusal) → refused (listed x) ≡ form_number bytes place c (form_listed form) row → (n : ℕ) → row < n → listed x ≡ form_rule bytes at c (form_listed form) n
+  row-stops x e n l =
+      let k : form_rule bytes at c (form_listed form) (suc row) ≡ listed x = up_to ∙ refused-tells row_rule _ e in
+      sym (turns-stop bytes at c.slen (λ i. form_format (form_listed form) c i (row_part bytes at c i)) row n l (rw (k, refused-not-done x)) ∙ k)

@@ -3,6 +3,7 @@
 use mathlib.Core.Path.{◌≡◌, sym, ap, ◌∙◌}
 use mathlib.Core.List.{List}
 use Prim.Native.Nat.{ℕ}
+use Rattle.std.specs.Prelude.{Option}
 use Rattle.answers.specs.Listed.{listed}
 use Rattle.answers.specs.Outcome.{found, refused}
 use Rattle.answers.specs.Table.{Answer, next}
@@ -25,7 +26,7 @@ use Rattle.rules.specs.Decided.{ready, ready_of, decided, form_rule}
 use Rattle.rules.specs.Rules.{element_ruled, element_rules, pack_rules}
 use Rattle.rules.proofs.Decided.{by_form}
 
-module _ (range : DeviationRange) (bytes : List ℕ) where
+module _ (range : Option DeviationRange) (bytes : List ℕ) where
   -- a bad range comes before all
   pub first : (r : Refusal) → listed r ≡ lent_rule range → refused (listed r) ≡ decided range bytes
   first r e = refused-where (pack_rules range bytes) (ready_of range bytes) r (rw (← e, refused-not-done r))

@@ -1,8 +1,9 @@
 -- What the rules decide of a pack: where its elements start, and how its deviations are read.
-use Rattle.std.specs.Prelude.{ℕ, List}
+use Rattle.std.specs.Prelude.{ℕ, List, Err, Ok, Result, Option}
 use Rattle.answers.specs.Listed.{listed}
 use Rattle.answers.specs.Outcome.{Outcome, found, refused, unless}
 use Rattle.answers.specs.Table.{Answer}
+use Rattle.answers.specs.declared.Refusal.{Refusal}
 use Rattle.layout.specs.Header.{control_of}
 use Rattle.layout.specs.declared.control.ParseControl.{ParseControl}
 use Rattle.elements.specs.declared.head.Places.{Places}
@@ -11,7 +12,6 @@ use Rattle.deviations.specs.declared.form.DeviationRange.{DeviationRange}
 use Rattle.deviations.specs.Range.{row_part}
 use Rattle.deviations.specs.Form.{Form, form_listed, form_of, form_format}
 use Rattle.rules.specs.declared.decide.Decided.{Decided}
-use Rattle.rules.specs.declared.decide.Decided.TheVariants.{Pack, Refused}
 use Rattle.rules.specs.Rules.{in_turn, pack_rules}
 
 pub record Ready : Type 0 where
@@ -21,14 +21,14 @@ pub record Ready : Type 0 where
 abbrev pub ready : Places → Form → Ready
 ready p f = record { places = p; form = f }
 
-abbrev pub decided_listed : Decided → Outcome Ready
-decided_listed (Pack p f) = found (ready p (form_listed f))
-decided_listed (Refused r) = refused (listed r)
+abbrev pub decided_listed : Result Decided Refusal → Outcome Ready
+decided_listed (Ok d) = found (ready d.places (form_listed d.form))
+decided_listed (Err r) = refused (listed r)
 
-abbrev pub ready_of : DeviationRange → List ℕ → Ready
+abbrev pub ready_of : Option DeviationRange → List ℕ → Ready
 ready_of range bytes = ready (places_of (head_of bytes)) (form_of range (control_of bytes))
 
-abbrev pub decided : DeviationRange → List ℕ → Outcome Ready
+abbrev pub decided : Option DeviationRange → List ℕ → Outcome Ready
 decided range bytes = unless (pack_rules range bytes) (ready_of range bytes)
 
 -- rule h), by the form that the deviations are read in

@@ -1,5 +1,5 @@
 -- Rules a) to k) by name, where the reader is lent no range: each as the reader has it, and the first that refuses.
-use Rattle.std.specs.Prelude.{ℕ, ◌-◌, ◌<◌, ◌≡◌, List, length}
+use Rattle.std.specs.Prelude.{ℕ, ◌-◌, ◌<◌, ◌≡◌, List, length, None}
 use Rattle.answers.specs.Table.{Answer}
 use Rattle.layout.specs.declared.control.ParseControl.{ParseControl}
 use Rattle.layout.specs.declared.rule.Rule.{Rule}
@@ -8,7 +8,6 @@ use Rattle.layout.specs.Ruled.{Ruled, behind}
 use Rattle.layout.specs.Header.{said_size, control_of, body_at, header_of, rule_a, rule_b}
 use Rattle.layout.specs.Size.{rule_c, rule_d, rule_e, rule_f, rule_g, fit_ruled}
 use Rattle.elements.specs.Elements.{head_of}
-use Rattle.deviations.specs.declared.form.DeviationRange.TheVariants.{Unknown}
 use Rattle.rules.specs.Rules.{rule_h, rule_i, rule_j, rule_k, element_ruled}
 
 module _ (bytes : List ℕ) where
@@ -24,7 +23,7 @@ module _ (bytes : List ℕ) where
   rule_of E = of_size rule_e
   rule_of F = of_size rule_f
   rule_of G = of_size rule_g
-  rule_of H = rule_h Unknown bytes (head_of bytes)
+  rule_of H = rule_h None bytes (head_of bytes)
   rule_of I = rule_i bytes (head_of bytes)
   rule_of J = rule_j bytes (head_of bytes)
   rule_of K = rule_k bytes (head_of bytes)

@@ -1,13 +1,13 @@
 -- Document 01, "Reader's order": the rules h) to l), each as it stands there, behind a) to g) of `layout`. A range that
 -- is lent comes before them all.
-use Rattle.std.specs.Prelude.{ℕ, ◌+◌, ◌-◌, ◌*◌, not, ◌&&◌, List, [], ◌∷◌, eqb, ltb, length}
+use Rattle.std.specs.Prelude.{ℕ, ◌+◌, ◌-◌, ◌*◌, not, ◌&&◌, List, [], ◌∷◌, eqb, ltb, length, Option}
 use Rattle.answers.specs.Table.{Answer, answer, short, wholes, pick, passes, next, each}
 use Rattle.layout.specs.declared.control.ParseControl.{ParseControl}
 use Rattle.layout.specs.declared.rule.Rule.TheVariants.{H, I, J, K}
 use Rattle.layout.specs.Ruled.{Ruled, passed, named, unnamed}
 use Rattle.layout.specs.Size.{fit_rules}
 use Rattle.layout.specs.Triangle.{slots_of}
-use Rattle.elements.specs.declared.head.Head.{Head}
+use Rattle.layout.specs.declared.header.Head.{Head}
 use Rattle.elements.specs.Elements.{head_of, deviations_at, deviation_count, codes_at, present_count, end_at}
 use Rattle.elements.specs.Formats.{code_format}
 use Rattle.elements.specs.Numbers.{element_rule}
@@ -29,7 +29,7 @@ over_rule used given = pick (ltb used given) (answer 2 (wholes (used ∷ given �
 
 -- each deviation in turn: fewer than Slen bytes left: 1 with Slen and what is left there; then its format, over a range
 -- or none
-abbrev pub rule_h : DeviationRange → List ℕ → Head → Answer
+abbrev pub rule_h : Option DeviationRange → List ℕ → Head → Answer
 rule_h range bytes h =
     in_turn bytes (deviations_at h) h.control.slen
     (λ i. format_over range h.control i (row_part bytes (deviations_at h) h.control i)) (deviation_count h)
@@ -54,11 +54,11 @@ abbrev pub element_ruled : Answer → List ℕ → Head → Ruled
 element_ruled a bytes h = named H a (code_ruled bytes h)
 
 -- h) to k), without the names
-abbrev pub element_rules : DeviationRange → List ℕ → Head → Answer
+abbrev pub element_rules : Option DeviationRange → List ℕ → Head → Answer
 element_rules range bytes h = unnamed (element_ruled (rule_h range bytes h) bytes h)
 
 -- the range that is lent, and a) to k)
-abbrev pub pack_rules : DeviationRange → List ℕ → Answer
+abbrev pub pack_rules : Option DeviationRange → List ℕ → Answer
 pack_rules range bytes =
     next (lent_rule range) (next (fit_rules bytes) (element_rules range bytes (head_of bytes)))
 

@@ -3,22 +3,17 @@ ghost use Rattle.std.specs.Prelude.{◌≡◌};
 ghost use Rattle.elements.specs.Listed.{opened_listed, verdict};
 ghost use Rattle.rules.specs.Named.{pack_ruled};
 
-use crate::decide::elements_whole;
+use crate::opened::Opened;
 use deviations::form::DeviationForm;
-use elements::head::{Opened, open_pack};
-use layout::rule::Ruling;
+use elements::head::{Places, open_pack};
+use layout::rule::Broken;
 
 // Where the elements of a pack that passes them all start, or the first that refuses it.
-pub fn judge(bytes: &[u8]) -> Opened
+pub fn judge(bytes: &[u8]) -> Result<Places, Broken>
     ensures { opened_listed result ≡ verdict bytes.now (pack_ruled bytes.now) }
 {
-    let opened = open_pack(bytes);
-    let Opened::Pack(places) = opened else {
-        return opened;
-    };
-    let whole = elements_whole(bytes, places, DeviationForm::Plain);
-    if let Ruling::Refused { rule, refusal } = whole {
-        return Opened::Refused { rule, refusal };
-    }
-    Opened::Pack(places)
+    let places = open_pack(bytes)?;
+    let opened = Opened { bytes, places };
+    opened.elements_whole(DeviationForm::Plain)?;
+    Ok(places)
 }

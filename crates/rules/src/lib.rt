@@ -3,5 +3,6 @@
 
 pub mod decide;
 pub mod judge;
+mod opened;
 pub mod rooms;
 mod turns;

@@ -3,8 +3,9 @@ ghost use Rattle.std.specs.Prelude.{◌≡◌};
 ghost use Rattle.answers.specs.Listed.{checked};
 ghost use Rattle.rules.specs.Rules.{rooms_rule, room_rules};
 
-use answers::{Check, Refusal};
-use elements::head::{Head, pack_of};
+use answers::Refusal;
+use elements::head::pack_of;
+use layout::header::Head;
 
 // The first short buffer, where so many rows and slots are needed.
 pub fn check_rooms_for(
@@ -13,32 +14,37 @@ pub fn check_rooms_for(
     deviations: usize,
     correlations: usize,
     states: usize,
-) -> Check
+) -> Result<(), Refusal>
     ensures { checked result ≡ rooms_rule rows slots deviations correlations states }
 {
     if deviations < rows {
-        return Check::Refused(Refusal::BufferTooSmall {
+        return Err(Refusal::BufferTooSmall {
             needed: rows,
             got: deviations,
         });
     }
     if correlations < slots {
-        return Check::Refused(Refusal::BufferTooSmall {
+        return Err(Refusal::BufferTooSmall {
             needed: slots,
             got: correlations,
         });
     }
     if states < slots {
-        return Check::Refused(Refusal::BufferTooSmall {
+        return Err(Refusal::BufferTooSmall {
             needed: slots,
             got: states,
         });
     }
-    Check::Passes
+    Ok(())
 }
 
 // Those of a pack.
-pub fn check_rooms(head: Head, deviations: usize, correlations: usize, states: usize) -> Check
+pub fn check_rooms(
+    head: Head,
+    deviations: usize,
+    correlations: usize,
+    states: usize,
+) -> Result<(), Refusal>
     ensures { checked result ≡ room_rules head deviations correlations states }
 {
     let pack = pack_of(head);

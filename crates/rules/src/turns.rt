@@ -6,32 +6,34 @@ ghost use Rattle.deviations.specs.Form.{form_listed};
 ghost use Rattle.rules.specs.Decided.{form_rule};
 ghost use Rattle.rules.specs.Turns.{turns_rule};
 
-use answers::{Check, Refusal};
+use answers::Refusal;
 use deviations::form::DeviationForm;
 use deviations::number::deviation_in;
-use elements::number::{Number, check_number};
 use layout::control::ParseControl;
 
 // `count` elements of `size` bytes, of which the first's answer is given, with so many bytes left for all.
-pub(crate) fn in_turn(first: Check, count: usize, size: usize, left: usize) -> Check
+pub(crate) fn in_turn(
+    first: Result<(), Refusal>,
+    count: usize,
+    size: usize,
+    left: usize,
+) -> Result<(), Refusal>
     requires { count * size < 2 ^ 64 }
     ensures { checked result ≡ turns_rule (checked first) count size left }
 {
     if count == 0 {
-        return Check::Passes;
+        return Ok(());
     }
-    let Check::Passes = first else {
-        return first;
-    };
+    first?;
     let all = count * size;
     if left < all {
         // those before the one that is short are whole
-        Check::Refused(Refusal::TruncatedField {
+        Err(Refusal::TruncatedField {
             needed: size,
             got: left % size,
         })
     } else {
-        Check::Passes
+        Ok(())
     }
 }
 
@@ -42,20 +44,15 @@ pub(crate) fn rows_in_turn(
     control: ParseControl,
     form: DeviationForm,
     count: usize,
-) -> Check
+) -> Result<(), Refusal>
     requires { (at ≤ length bytes.now) × (count ≤ max_rows) }
     ensures { checked result ≡ form_rule bytes.now at control (form_listed form) count }
 {
     let size = control.slen as usize;
     let mut next = at;
-    let mut row: usize = 0;
-    while row < count {
-        let number = deviation_in(bytes, next, control, form, row);
-        let Number::Bits(_) = number else {
-            return check_number(number);
-        };
+    for row in 0..count {
+        deviation_in(bytes, next, control, form, row)?;
         next += size;
-        row += 1;
     }
-    Check::Passes
+    Ok(())
 }

@@ -8,9 +8,8 @@ use native.Mathlib.Numerals.{add-one}
 use native.Mathlib.Omega.{arith}
 use lib.Dec.{leb}
 use borrow.Author.Tests.{ne_eqb, le-leb, lt-leb}
+use Rattle.std.specs.Prelude.{None, Some, Option}
 use Rattle.answers.specs.Table.{Answer, answer, wholes, passes, next}
-use Rattle.layout.specs.declared.size.Peek.{Peek}
-use Rattle.layout.specs.declared.size.Peek.TheVariants.{Size, Nothing}
 use Rattle.layout.specs.Size.{peeked}
 use Rattle.sets.specs.Tags.{pack_tag, is_pushed}
 use Rattle.sets.specs.Parts.{part_of}
@@ -20,9 +19,9 @@ use Rattle.sets.specs.Rules.{peek_rule, pack_rule, room_rule}
 unpushed : (room seen : ℕ) → room_rule room seen pack_tag ≡ passes
 unpushed room seen = rw (and-false (leb room seen))
 
-peek-alone : (r : Peek) → peek_rule r ≡ next (peek_rule r) passes
-peek-alone (Size n) = refl
-peek-alone Nothing = refl
+peek-alone : (r : Option ℕ) → peek_rule r ≡ next (peek_rule r) passes
+peek-alone (Some n) = refl
+peek-alone None = refl
 
 module _ (set : List ℕ) (tag start end room seen : ℕ) where
   abbrev Rules : Answer

@@ -8,14 +8,12 @@ use native.Mathlib.Omega.{arith}
 use lib.ListN.{length, take, drop, length-append, length-drop}
 use lib.Seq.{drop-append-le, take-append_seam}
 use borrow.Author.Tests.{le-ltb}
+use Rattle.std.specs.Prelude.{None, Some, Option}
 use Rattle.sets.specs.declared.item.Item.{Item}
-use Rattle.sets.specs.declared.item.Item.TheVariants.{Read, Faulty}
 use Rattle.sets.specs.declared.pack.PackPlace.{PackPlace}
-use Rattle.sets.specs.declared.pack.NextPack.{NextPack}
-use Rattle.sets.specs.declared.pack.NextPack.TheVariants.{Pack, Nothing}
 use Rattle.sets.specs.Tags.{pack_tag}
 use Rattle.sets.specs.Parts.{part_of}
-use Rattle.sets.specs.Items.{Placed, placed}
+use Rattle.sets.specs.Items.{read, Placed, placed}
 use Rattle.sets.specs.Packs.{pushed, tags_of, pack_of, before, packs_of, nth}
 use Rattle.sets.specs.Taken.{last_of}
 use Rattle.sets.proofs.Next.{Found, pack-tells}
@@ -27,26 +25,26 @@ pub record Among (set : List ℕ) (seen : ℕ) (ps : List Placed) (k : ℕ) (p :
   pub at : ℕ
   pub start : ℕ
   pub end : ℕ
-  pub item : ps ≡ ahead ++ (placed at (Read pack_tag start end) ∷ rest)
+  pub item : ps ≡ ahead ++ (placed at (Some (read pack_tag start end)) ∷ rest)
   pub kth : length (packs_of set seen ahead) ≡ k
   pub found : Found set (seen + length (tags_of ahead)) pack_tag start end p
 
 module _ (set : List ℕ) (seen : ℕ) (x : Placed) (xs : List Placed) where
   -- it is the first item
-  among_first : {p : PackPlace} → pack_of set seen x.item ≡ Pack p → Among set seen (x ∷ xs) 0 p
+  among_first : {p : PackPlace} → pack_of set seen x.item ≡ Some p → Among set seen (x ∷ xs) 0 p
   among_first {p} e = go x.item refl e
     where
-      go : (i : Item) → x.item ≡ i → pack_of set seen i ≡ Pack p → Among set seen (x ∷ xs) 0 p
-      go Faulty q e = let o : ◌≡◌ {A = ℕ} 0 1 = cc in absurd (omega arith)
-      go (Read tag start end) q e =
-          let f = pack-tells set seen tag start end e in
+      go : (i : Option Item) → x.item ≡ i → pack_of set seen i ≡ Some p → Among set seen (x ∷ xs) 0 p
+      go None q e = let o : ◌≡◌ {A = ℕ} 0 1 = cc in absurd (omega arith)
+      go (Some i) q e =
+          let f = pack-tells set seen i.tag i.start i.end e in
           record {
             ahead = [];
             rest = xs;
             at = x.at;
-            start = start;
-            end = end;
-            item = ap (λ (i : Item). placed x.at i ∷ xs) (q ∙ ap (λ (t : ℕ). Read t start end) f.pack);
+            start = i.start;
+            end = i.end;
+            item = ap (λ (o : Option Item). placed x.at o ∷ xs) (q ∙ ap (λ (t : ℕ). Some (read t i.start i.end)) f.pack);
             kth = refl;
             found = rw (add-zero seen, ← f.pack) f;
           }
@@ -68,16 +66,16 @@ module _ (set : List ℕ) (seen : ℕ) (x : Placed) (xs : List Placed) where
         found = rw e a.found;
       }
 
-pub among : (set : List ℕ) (ps : List Placed) (seen k : ℕ) {p : PackPlace} → nth k (packs_of set seen ps) ≡ Pack p → Among set seen ps k p
+pub among : (set : List ℕ) (ps : List Placed) (seen k : ℕ) {p : PackPlace} → nth k (packs_of set seen ps) ≡ Some p → Among set seen ps k p
 among set [] seen k e = let o : ◌≡◌ {A = ℕ} 0 1 = cc in absurd (omega arith)
 among set (x ∷ xs) seen k {p} e = go (pack_of set seen x.item) refl k e (λ j. among set xs (seen + length (pushed x.item)) j)
   where
-    go : (y : NextPack) → pack_of set seen x.item ≡ y → (k : ℕ) → nth k (before y (packs_of set (seen + length (pushed x.item)) xs)) ≡ Pack p
-        → ((j : ℕ) → nth j (packs_of set (seen + length (pushed x.item)) xs) ≡ Pack p → Among set (seen + length (pushed x.item)) xs j p)
+    go : (y : Option PackPlace) → pack_of set seen x.item ≡ y → (k : ℕ) → nth k (before y (packs_of set (seen + length (pushed x.item)) xs)) ≡ Some p
+        → ((j : ℕ) → nth j (packs_of set (seen + length (pushed x.item)) xs) ≡ Some p → Among set (seen + length (pushed x.item)) xs j p)
         → Among set seen (x ∷ xs) k p
-    go Nothing q k e later = let a = later k e in among-behind set seen x xs a (rw q a.kth)
-    go (Pack r) q zero e later = among_first set seen x xs (q ∙ e)
-    go (Pack r) q (suc k) e later = let a = later k e in among-behind set seen x xs a (rw q (ap suc a.kth))
+    go None q k e later = let a = later k e in among-behind set seen x xs a (rw q a.kth)
+    go (Some r) q zero e later = among_first set seen x xs (q ∙ e)
+    go (Some r) q (suc k) e later = let a = later k e in among-behind set seen x xs a (rw q (ap suc a.kth))
 
 -- ---- its parts
 -- a part that ends within the list

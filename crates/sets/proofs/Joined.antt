@@ -7,10 +7,10 @@ use native.Mathlib.Omega.{arith}
 use lib.Dec.{ltb}
 use lib.ListN.{length}
 use borrow.Author.Tests.{ltb-true, ltb-false}
+use Rattle.std.specs.Prelude.{None, Some, Option}
 use Rattle.answers.proofs.Rules.{by_bool}
 use Rattle.answers.proofs.Next.{next-zero}
 use Rattle.sets.specs.declared.item.Item.{Item}
-use Rattle.sets.specs.declared.item.Item.TheVariants.{Read, Faulty}
 use Rattle.sets.specs.Items.{item_at, Placed, placed, items_from}
 use Rattle.sets.specs.Packs.{pushed}
 use Rattle.sets.specs.Rules.{item_rules, set_rules}
@@ -23,16 +23,16 @@ module _ (set : List ℕ) (room : ℕ) where
   join-end at h k = rw (items-none set at k) (omega arith)
 
   -- one item on
-  join-item : (seen at : ℕ) → at < length set → (i : Item) → i ≡ item_at set at → (set_rules set room seen (items_from set at)).number ≡ 0
+  join-item : (seen at : ℕ) → at < length set → (i : Option Item) → i ≡ item_at set at → (set_rules set room seen (items_from set at)).number ≡ 0
       → ((seen' end : ℕ) → at < end → end ≤ length set → (set_rules set room seen' (items_from set end)).number ≡ 0 → JoinUp end (items_from set end) (length set))
       → JoinUp at (items_from set at) (length set)
-  join-item seen at b Faulty q z later = let y : ◌≡◌ {A = ℕ} 10 0 = rw (items-faulty set at b q) at z in absurd (omega arith)
-  join-item seen at b (Read tag start end) q z later =
-      let e = items-read set at b q in
+  join-item seen at b None q z later = let y : ◌≡◌ {A = ℕ} 10 0 = rw (items-faulty set at b q) at z in absurd (omega arith)
+  join-item seen at b (Some i) q z later =
+      let e = items-read set at q in
       let t = item-tells set at q in
-      let n = seen + length (pushed (Read tag start end)) in
-      let rules = (next-zero (item_rules set room seen at (Read tag start end)) (set_rules set room n (items_from set end)) (rw e at z)).1 in
-      rw e (refl, (omega (arith, t.0), t.1, later n end (omega (arith, t.0, t.1)) t.2 rules))
+      let n = seen + length (pushed (Some i)) in
+      let rules = (next-zero (item_rules set room seen at (Some i)) (set_rules set room n (items_from set i.end)) (rw e at z)).1 in
+      rw e (refl, (omega (arith, t.0), t.1, later n i.end (omega (arith, t.0, t.1)) t.2 rules))
 
   join_up : (most seen at : ℕ) → length set - at ≤ most → at ≤ length set → (set_rules set room seen (items_from set at)).number ≡ 0
       → JoinUp at (items_from set at) (length set)
@@ -46,9 +46,9 @@ module _ (set : List ℕ) (room : ℕ) where
   joins = join_up (length set) 0 0 (omega arith) (omega arith)
 
 -- what joins up to a place ends there at most
-was_read : (i : Item) (holds : ℕ → ℕ → Type 0) → WasRead i holds → (start : ℕ) × (end : ℕ) × holds start end
-was_read Faulty holds w = absurd w
-was_read (Read tag start end) holds w = (start, end, w)
+was_read : (i : Option Item) (holds : ℕ → ℕ → Type 0) → WasRead i holds → (start : ℕ) × (end : ℕ) × holds start end
+was_read None holds w = absurd w
+was_read (Some i) holds w = (i.start, i.end, w)
 
 abbrev Joins : ℕ → List Placed → ℕ → ℕ → ℕ → Type 0
 Joins from ps to start end = (from < start) × (start ≤ end) × JoinUp end ps to
@@ -59,9 +59,9 @@ join-le (p ∷ ps) from to j =
     let w = was_read p.item (Joins from ps to) j.1 in
     omega (arith, w.2.0, w.2.1, join-le ps w.1 to w.2.2)
 
-pub join-within : (ahead rest : List Placed) (from to at tag start end : ℕ)
-    → JoinUp from (ahead ++ (placed at (Read tag start end) ∷ rest)) to → end ≤ to
-join-within [] rest from to at tag start end j = join-le rest end to j.1.2
-join-within (p ∷ ahead) rest from to at tag start end j =
-    let w = was_read p.item (Joins from (ahead ++ (placed at (Read tag start end) ∷ rest)) to) j.1 in
-    join-within ahead rest w.1 to at tag start end w.2.2
+pub join-within : (ahead rest : List Placed) (from to at : ℕ) (i : Item)
+    → JoinUp from (ahead ++ (placed at (Some i) ∷ rest)) to → i.end ≤ to
+join-within [] rest from to at i j = join-le rest i.end to j.1.2
+join-within (p ∷ ahead) rest from to at i j =
+    let w = was_read p.item (Joins from (ahead ++ (placed at (Some i) ∷ rest)) to) j.1 in
+    join-within ahead rest w.1 to at i w.2.2

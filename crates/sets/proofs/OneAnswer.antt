@@ -1,11 +1,12 @@
 -- No second answer meets a contract: two that do are the same, with what they leave in lent memory.
 -- Assumes nothing.
 use mathlib.Core.Path.{◌≡◌, refl, sym, ap, ◌∙◌}
+use Rattle.std.specs.Prelude.{Ok, Err, Result}
 use Rattle.answers.specs.OneAnswer.{OneResult, OneAnswer, OnePart}
 use Rattle.answers.specs.Table.{Answer}
+use Rattle.answers.specs.declared.Refusal.{Refusal}
 use Rattle.answers.proofs.OneToOne.{listed-one, done-not-refused}
-use Rattle.sets.specs.declared.set.SetAnswer.{SetAnswer}
-use Rattle.sets.specs.declared.set.SetAnswer.TheVariants.{Done, Refused}
+use Rattle.sets.specs.declared.set.SetCounts.{SetCounts}
 use Rattle.sets.specs.Rules.{counts, set_listed, left_tags}
 use Rattle.sets.proofs.tag.is_pushed.Reads as is-pushed
 use Rattle.sets.proofs.item.read_item.Reads as read-item
@@ -29,16 +30,16 @@ next-pack-one κs a r r' s s' p q = p ∙ sym q
 pub pack-at-one : OneResult pack-at.Learnt
 pack-at-one κs a r r' s s' p q = p ∙ sym q
 
--- what determines the listed answer determines the enum
-set-one : (r r' : SetAnswer) → set_listed r ≡ set_listed r' → r ≡ r'
-set-one (Done p t) (Done p' t') e =
+-- what determines the listed answer determines the result
+set-one : (r r' : Result SetCounts Refusal) → set_listed r ≡ set_listed r' → r ≡ r'
+set-one (Ok s) (Ok t) e =
     let c = ap (λ (a : Answer). a.carries) e in
-    let n : p ≡ p' = cc in
-    let m : t ≡ t' = cc in
-    λ i. Done (n i) (m i)
-set-one (Done p t) (Refused r') e = absurd (done-not-refused (counts p t) r' refl e)
-set-one (Refused r) (Done p t) e = absurd (done-not-refused (counts p t) r refl (sym e))
-set-one (Refused r) (Refused r') e = ap Refused (listed-one r r' e)
+    let p : s.packs ≡ t.packs = cc in
+    let q : s.tags ≡ t.tags = cc in
+    λ i. Ok (record { packs = p i; tags = q i })
+set-one (Ok s) (Err r) e = absurd (done-not-refused (counts s.packs s.tags) r refl e)
+set-one (Err r) (Ok s) e = absurd (done-not-refused (counts s.packs s.tags) r refl (sym e))
+set-one (Err r) (Err r') e = ap Err (listed-one r r' e)
 
 pub read-set-one : OneAnswer read_set.Learnt (λ κs s. s.1.0.now)
 read-set-one κs a r r' s s' p q =

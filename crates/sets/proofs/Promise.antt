@@ -8,20 +8,18 @@ use native.Mathlib.Omega.{arith}
 use lib.Dec.{ltb}
 use lib.ListN.{length, take, drop, length-append, length-drop}
 use borrow.Author.Tests.{ne_eqb, ltb-true, ltb-false}
+use Rattle.std.specs.Prelude.{None, Some}
 use Rattle.answers.specs.Lent.{over}
 use Rattle.answers.proofs.Next.{next-zero}
 use Rattle.answers.proofs.Rules.{by_bool}
 use Rattle.numbers.specs.BerOid.{oid_read}
-use Rattle.layout.specs.declared.size.Peek.TheVariants.{Size}
 use Rattle.layout.specs.Size.{peeked}
 use Rattle.layout.specs.Header.{said_size}
 use Rattle.layout.proofs.Peek.{peek-size}
-use Rattle.sets.specs.declared.item.Item.TheVariants.{Read}
 use Rattle.sets.specs.declared.pack.PackPlace.{PackPlace}
-use Rattle.sets.specs.declared.pack.NextPack.TheVariants.{Pack, Nothing}
 use Rattle.sets.specs.Tags.{pack_tag}
 use Rattle.sets.specs.Parts.{part_of}
-use Rattle.sets.specs.Items.{Placed, placed, items_of}
+use Rattle.sets.specs.Items.{read, Placed, placed, items_of}
 use Rattle.sets.specs.Packs.{pushed, tags_of, packs_of, nth}
 use Rattle.sets.specs.Rules.{set_rules, counts, set_answer}
 use Rattle.sets.specs.Handed.{taken_packs, pack_at, bytes_by, tags_by}
@@ -32,12 +30,12 @@ use Rattle.sets.proofs.Given.{Among, among, part-is, part-last}
 use Rattle.sets.proofs.Joined.{joins, join-within}
 
 -- a pack of so many there is, and no further one
-nth-some : (k : ℕ) (ps : List PackPlace) → k < length ps → (p : PackPlace) × (nth k ps ≡ Pack p)
+nth-some : (k : ℕ) (ps : List PackPlace) → k < length ps → (p : PackPlace) × (nth k ps ≡ Some p)
 nth-some k [] h = absurd (omega arith)
 nth-some zero (p ∷ ps) h = (p, refl)
 nth-some (suc k) (p ∷ ps) h = nth-some k ps (omega arith)
 
-nth_past : (k : ℕ) (ps : List PackPlace) → length ps ≤ k → nth k ps ≡ Nothing
+nth_past : (k : ℕ) (ps : List PackPlace) → length ps ≤ k → nth k ps ≡ None
 nth_past k [] h = refl
 nth_past zero (p ∷ ps) h = absurd (omega arith)
 nth_past (suc k) (p ∷ ps) h = nth_past k ps (omega arith)
@@ -46,7 +44,7 @@ tags-append : (ps qs : List Placed) → tags_of (ps ++ qs) ≡ tags_of ps ++ tag
 tags-append [] qs = refl
 tags-append (p ∷ ps) qs = rw (tags-append ps qs) (sym (append_assoc (pushed p.item) (tags_of ps) (tags_of qs)))
 
-peek-some : (n : ℕ) → peeked [] ≡ Size n → ⊥
+peek-some : (n : ℕ) → peeked [] ≡ Some n → ⊥
 unfolding oid_read
 peek-some n e = let o : ◌≡◌ {A = ℕ} 0 1 = cc in omega arith
 
@@ -76,12 +74,12 @@ module _ (set lent : List ℕ) (z : (set_answer set (length lent)).number ≡ 0)
   rules : (set_rules set (length lent) 0 items).number ≡ 0
   rules = (next-zero (set_rules set (length lent) 0 items) (counts (length all) (length (tags_of items))) z).0
 
-  module _ (k : ℕ) (p : PackPlace) (e : nth k all ≡ Pack p) where
+  module _ (k : ℕ) (p : PackPlace) (e : nth k all ≡ Some p) where
     a : Among set 0 items k p
     a = among set items 0 k e
 
     within : a.end ≤ length set
-    within = join-within a.ahead a.rest 0 (length set) a.at pack_tag a.start a.end (rw a.item at (joins set (length lent) rules))
+    within = join-within a.ahead a.rest 0 (length set) a.at (read pack_tag a.start a.end) (rw a.item at (joins set (length lent) rules))
 
     abbrev value : List ℕ
     value = take (a.end - a.start) (drop a.start set)
@@ -99,7 +97,7 @@ module _ (set lent : List ℕ) (z : (set_answer set (length lent)).number ≡ 0)
         (λ f.
         let g = ltb-false a.start a.end f in
         let none : a.end - a.start ≡ 0 = omega arith in
-        let e : peeked [] ≡ Size a.found.n = sym (ap peeked (part ∙ rw none)) ∙ a.found.size in
+        let e : peeked [] ≡ Some a.found.n = sym (ap peeked (part ∙ rw none)) ∙ a.found.size in
         absurd (peek-some a.found.n e))
 
     -- the tags ahead of it stand first
@@ -107,14 +105,14 @@ module _ (set lent : List ℕ) (z : (set_answer set (length lent)).number ≡ 0)
     ahead = tags_of a.ahead
 
     abbrev behind : List ℕ
-    behind = tags_of (placed a.at (Read pack_tag a.start a.end) ∷ a.rest)
+    behind = tags_of (placed a.at (Some (read pack_tag a.start a.end)) ∷ a.rest)
 
     front : left ≡ ahead ++ (behind ++ drop (length (tags_of items)) lent)
     front =
         ap (λ (l : List ℕ). l ++ drop (length (tags_of items)) lent) (ap tags_of a.item ∙ tags-append a.ahead _)
         ∙ append_assoc ahead behind (drop (length (tags_of items)) lent)
 
-    refines : tags_by left (Pack p) ≡ last_of (said_size value) ahead
+    refines : tags_by left (Some p) ≡ last_of (said_size value) ahead
     refines =
         let none = zero-add (length ahead) in
         let n = a.found.n in

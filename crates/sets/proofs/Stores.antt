@@ -8,13 +8,14 @@ use native.Mathlib.Numerals.{add-one}
 use native.Mathlib.Omega.{arith}
 use lib.ListN.{length, drop, get_or, set, length-drop}
 use lib.Seq.{drop-cons}
+use Rattle.std.specs.Prelude.{None, Some}
 use Rattle.answers.specs.Lent.{over}
 use Rattle.answers.proofs.Lent.{Front, front-none, front-more, front-done}
-use Rattle.sets.specs.declared.item.Item.TheVariants.{Read, Faulty}
+use Rattle.sets.specs.declared.item.Item.{Item}
 use Rattle.sets.specs.Tags.{is_pushed}
-use Rattle.sets.specs.Items.{item_at, items_from, items_of}
+use Rattle.sets.specs.Items.{item_at, Placed, items_from, items_of}
 use Rattle.sets.specs.Packs.{tags_of}
-use Rattle.sets.proofs.Items.{items-none, items-faulty, items-read}
+use Rattle.sets.proofs.Items.{items_over, items-read}
 
 -- ---- a list whose front is stored, with an entry next
 module _ (all lent : List ℕ) {i : ℕ} {l : List ℕ} (f : Front all lent i l) where
@@ -43,30 +44,26 @@ module _ (bytes lent : List ℕ) where
   stored-none h = record { front = front-none h; left = refl }
 
   module _ {seen at : ℕ} {tags : List ℕ} (s : Stored seen at tags) where
-    -- at the set's end all are stored
-    pub stored-all : length bytes ≤ at → tags ≡ over (tags_of (items_of bytes)) lent
-    stored-all h = stored-end (tags_of (items_of bytes)) lent s.front (s.left ∙ rw (items-none bytes at h))
+    -- where no item is read all are stored
+    pub stored-all : None ≡ item_at bytes at → tags ≡ over (tags_of (items_of bytes)) lent
+    stored-all q =
+        stored-end (tags_of (items_of bytes)) lent s.front (s.left ∙ items_over bytes at (λ (ps : List Placed). tags_of ps ≡ []) refl refl q)
 
-    module _ (inside : at < length bytes) where
-      -- and so they are at a faulty item
-      pub stored-faulty : Faulty ≡ item_at bytes at → tags ≡ over (tags_of (items_of bytes)) lent
-      stored-faulty q = stored-end (tags_of (items_of bytes)) lent s.front (s.left ∙ rw (items-faulty bytes at inside q))
+    module _ {i : Item} (q : Some i ≡ item_at bytes at) where
+      -- a tag that is not pushed is passed over
+      pub stored-skip : is_pushed i.tag ≡ false → Stored seen i.end tags
+      stored-skip f = record { front = s.front; left = s.left ∙ rw (items-read bytes at q, f) }
 
-      module _ {tag start end : ℕ} (q : Read tag start end ≡ item_at bytes at) where
-        -- a tag that is not pushed is passed over
-        pub stored-skip : is_pushed tag ≡ false → Stored seen end tags
-        stored-skip f = record { front = s.front; left = s.left ∙ rw (items-read bytes at inside q, f) }
+      -- one that is pushed is next
+      module _ (t : is_pushed i.tag ≡ true) where
+        next : drop seen (tags_of (items_of bytes)) ≡ i.tag ∷ tags_of (items_from bytes i.end)
+        next = s.left ∙ rw (items-read bytes at q, t)
 
-        -- one that is pushed is next
-        module _ (t : is_pushed tag ≡ true) where
-          next : drop seen (tags_of (items_of bytes)) ≡ tag ∷ tags_of (items_from bytes end)
-          next = s.left ∙ rw (items-read bytes at inside q, t)
+        pub stored-room : seen < length tags
+        stored-room = omega (arith, stored-inside (tags_of (items_of bytes)) lent s.front next, s.front.room, s.front.long)
 
-          pub stored-room : seen < length tags
-          stored-room = omega (arith, stored-inside (tags_of (items_of bytes)) lent s.front next, s.front.room, s.front.long)
-
-          pub stored_more : Stored (seen + 1) end (set tags seen tag)
-          stored_more =
-              let all = tags_of (items_of bytes) in
-              let n = stored_next all lent s.front next in
-              record { front = front-more s.front (stored-inside all lent s.front next) n.0; left = n.1 }
+        pub stored_more : Stored (seen + 1) i.end (set tags seen i.tag)
+        stored_more =
+            let all = tags_of (items_of bytes) in
+            let n = stored_next all lent s.front next in
+            record { front = front-more s.front (stored-inside all lent s.front next) n.0; left = n.1 }

@@ -5,12 +5,12 @@ use mathlib.Core.List.{List, [], ◌∷◌}
 use Prim.Native.Nat.{ℕ, ◌+◌, ◌≤◌}
 use native.Mathlib.Omega.{arith}
 use lib.ListN.{length, length-append}
+use Rattle.std.specs.Prelude.{None, Some, Option}
 use Rattle.answers.specs.Listed.{listed}
 use Rattle.answers.specs.declared.Refusal.{Refusal}
 use Rattle.answers.proofs.Next.{next-zero}
 use Rattle.answers.proofs.OneToOne.{refused-not-done}
 use Rattle.sets.specs.declared.item.Item.{Item}
-use Rattle.sets.specs.declared.item.Item.TheVariants.{Read, Faulty}
 use Rattle.sets.specs.Items.{Placed, items_of}
 use Rattle.sets.specs.Packs.{pushed, tags_of, packs_of}
 use Rattle.sets.specs.Rules.{item_rules, pack_rule, room_rule, set_rules, counts, set_answer}
@@ -25,10 +25,10 @@ module _ (set : List ℕ) (room : ℕ) where
   refused-packs r e = rw (← e, refused-not-done r)
 
   -- every tag that is pushed has room
-  item-held : (at seen : ℕ) (i : Item) → seen ≤ room → (item_rules set room seen at i).number ≡ 0 → seen + length (pushed i) ≤ room
-  item-held at seen Faulty h z = absurd (omega arith)
-  item-held at seen (Read tag start end) h z =
-      rw (pushed-count tag start end) (room-held room seen tag h (next-zero (pack_rule set tag start end) (room_rule room seen tag) z).1)
+  item-held : (at seen : ℕ) (i : Option Item) → seen ≤ room → (item_rules set room seen at i).number ≡ 0 → seen + length (pushed i) ≤ room
+  item-held at seen None h z = absurd (omega arith)
+  item-held at seen (Some i) h z =
+      rw (pushed-count i) (room-held room seen i.tag h (next-zero (pack_rule set i.tag i.start i.end) (room_rule room seen i.tag) z).1)
 
   tags-left : (ps : List Placed) (seen : ℕ) → seen ≤ room → (set_rules set room seen ps).number ≡ 0 → seen + length (tags_of ps) ≤ room
   tags-left [] seen h z = omega arith

@@ -8,18 +8,16 @@ use native.Mathlib.Omega.{arith}
 use lib.Dec.{eqb, leb}
 use borrow.Author.Tests.{leb-false}
 use lib.ListN.{length, length-append}
+use Rattle.std.specs.Prelude.{None, Some, Option}
 use Rattle.answers.specs.Table.{answer, wholes, pick, passes, next}
 use Rattle.answers.specs.Listed.{listed}
 use Rattle.answers.specs.declared.Refusal.{Refusal}
 use Rattle.answers.proofs.Rules.{by_bool}
 use Rattle.answers.proofs.Next.{next-zero}
 use Rattle.answers.proofs.OneToOne.{refused-not-done}
-use Rattle.layout.specs.declared.size.Peek.{Peek}
-use Rattle.layout.specs.declared.size.Peek.TheVariants as peek
 use Rattle.layout.specs.Size.{peeked}
-use Rattle.sets.specs.declared.item.Item.TheVariants.{Read, Faulty}
+use Rattle.sets.specs.declared.item.Item.{Item}
 use Rattle.sets.specs.declared.pack.PackPlace.{PackPlace}
-use Rattle.sets.specs.declared.pack.NextPack.TheVariants.{Nothing}
 use Rattle.sets.specs.Tags.{pack_tag, is_pushed, tag_count, pack_count}
 use Rattle.sets.specs.Parts.{part_of}
 use Rattle.sets.specs.Items.{item_at, items_from, items_of}
@@ -27,8 +25,8 @@ use Rattle.sets.specs.Packs.{pushed, tags_of, sized_pack, pack_in, before, packs
 use Rattle.sets.specs.Rules.{peek_rule, pack_rule, room_rule, set_rules, counts, set_answer}
 use Rattle.sets.proofs.Items.{item-tells, items-none, items-faulty, items-read}
 
-pub pushed-count : (tag start end : ℕ) → length (pushed (Read tag start end)) ≡ tag_count tag
-pushed-count tag start end = by_bool (is_pushed tag) (λ t. rw t) (λ f. rw f)
+pub pushed-count : (i : Item) → length (pushed (Some i)) ≡ tag_count i.tag
+pushed-count i = by_bool (is_pushed i.tag) (λ t. rw t) (λ f. rw f)
 
 -- a count of none or one
 pub one : (b : Bool) → pick b 1 0 ≤ 1
@@ -49,10 +47,10 @@ pack-counted : (set : List ℕ) (seen tag start end : ℕ) (ps : List PackPlace)
     → length (before (pack_in set seen tag start end) ps) ≡ pack_count tag + length ps
 pack-counted set seen tag start end ps = go (eqb tag pack_tag) (peeked (part_of start end set))
   where
-    go : (b : Bool) (r : Peek) → (pick b (peek_rule r) passes).number ≡ 0
-        → length (before (pick b (sized_pack seen start end r) Nothing) ps) ≡ pick b 1 0 + length ps
-    go true (peek.Size n) z = omega arith
-    go true peek.Nothing z = absurd (omega arith)
+    go : (b : Bool) (r : Option ℕ) → (pick b (peek_rule r) passes).number ≡ 0
+        → length (before (pick b (sized_pack seen start end r) None) ps) ≡ pick b 1 0 + length ps
+    go true (Some n) z = omega arith
+    go true None z = absurd (omega arith)
     go false r z = omega arith
 
 module _ (set : List ℕ) (room : ℕ) where
@@ -69,35 +67,35 @@ module _ (set : List ℕ) (room : ℕ) where
   walk_none =
       record { within = omega arith; few = omega arith; fewer = omega arith; held = omega arith; rules = refl; packed = omega arith; tagged = omega arith }
 
-  module _ {packs seen at : ℕ} (w : Walk packs seen at) (inside : at < length set) where
+  module _ {packs seen at : ℕ} (w : Walk packs seen at) where
     -- a faulty item ends it
-    pub walk-faulty : Faulty ≡ item_at set at → set_answer set room ≡ answer 10 (wholes (at ∷ []))
-    walk-faulty q = rw (w.rules, items-faulty set at inside q)
+    pub walk-faulty : at < length set → None ≡ item_at set at → set_answer set room ≡ answer 10 (wholes (at ∷ []))
+    walk-faulty inside q = rw (w.rules, items-faulty set at inside q)
 
-    module _ {tag start end : ℕ} (q : Read tag start end ≡ item_at set at) where
+    module _ {i : Item} (q : Some i ≡ item_at set at) where
       -- so does one that is refused
-      pub walk_refused : (r : Refusal) → listed r ≡ next (pack_rule set tag start end) (room_rule room seen tag) → set_answer set room ≡ listed r
+      pub walk_refused : (r : Refusal) → listed r ≡ next (pack_rule set i.tag i.start i.end) (room_rule room seen i.tag) → set_answer set room ≡ listed r
       walk_refused r e =
-          let s : set_rules set room 0 (items_of set) ≡ listed r = w.rules ∙ rw (items-read set at inside q, ← e, refused-not-done r) in
+          let s : set_rules set room 0 (items_of set) ≡ listed r = w.rules ∙ rw (items-read set at q, ← e, refused-not-done r) in
           rw (s, refused-not-done r)
 
       -- and one that passes is counted
-      pub walk-on : (next (pack_rule set tag start end) (room_rule room seen tag)).number ≡ 0 → Walk (packs + pack_count tag) (seen + tag_count tag) end
+      pub walk-on : (next (pack_rule set i.tag i.start i.end) (room_rule room seen i.tag)).number ≡ 0 → Walk (packs + pack_count i.tag) (seen + tag_count i.tag) i.end
       walk-on z =
           let t = item-tells set at q in
-          let p = next-zero (pack_rule set tag start end) (room_rule room seen tag) z in
-          let items = items-read set at inside q in
-          let count = pushed-count tag start end in
-          let rest = items_from set end in
+          let p = next-zero (pack_rule set i.tag i.start i.end) (room_rule room seen i.tag) z in
+          let items = items-read set at q in
+          let count = pushed-count i in
+          let rest = items_from set i.end in
           record {
             within = t.2;
-            few = omega (arith, t.0, t.1, w.few, one (is_pushed tag));
-            fewer = omega (arith, t.0, t.1, w.fewer, one (eqb tag pack_tag));
-            held = room-held room seen tag w.held p.1;
+            few = omega (arith, t.0, t.1, w.few, one (is_pushed i.tag));
+            fewer = omega (arith, t.0, t.1, w.fewer, one (eqb i.tag pack_tag));
+            held = room-held room seen i.tag w.held p.1;
             rules = w.rules ∙ rw (items, z, count);
             packed = w.packed
-                ∙ rw (items, count, pack-counted set seen tag start end (packs_of set (seen + tag_count tag) rest) p.0) (omega arith);
-            tagged = w.tagged ∙ rw (items, length-append (pushed (Read tag start end)) (tags_of rest), count) (omega arith);
+                ∙ rw (items, count, pack-counted set seen i.tag i.start i.end (packs_of set (seen + tag_count i.tag) rest) p.0) (omega arith);
+            tagged = w.tagged ∙ rw (items, length-append (pushed (Some i)) (tags_of rest), count) (omega arith);
           }
 
   -- at the set's end all is counted

@@ -1,9 +1,7 @@
 -- Pack k of a set and of the tag list that it was read into.
-use Rattle.std.specs.Prelude.{ℕ, List, [], eqb, length}
+use Rattle.std.specs.Prelude.{ℕ, List, [], eqb, length, None, Some, Option}
 use Rattle.answers.specs.Table.{pick}
 use Rattle.sets.specs.declared.pack.PackPlace.{PackPlace}
-use Rattle.sets.specs.declared.pack.NextPack.{NextPack}
-use Rattle.sets.specs.declared.pack.NextPack.TheVariants.{Pack, Nothing}
 use Rattle.sets.specs.Parts.{part_of}
 use Rattle.sets.specs.Items.{items_of}
 use Rattle.sets.specs.Packs.{packs_of, nth}
@@ -13,17 +11,17 @@ use Rattle.sets.specs.Rules.{set_answer}
 abbrev pub taken_packs : List ℕ → ℕ → List PackPlace
 taken_packs set room = pick (eqb (set_answer set room).number 0) (packs_of set 0 (items_of set)) []
 
-abbrev pub pack_at : List ℕ → ℕ → ℕ → NextPack
+abbrev pub pack_at : List ℕ → ℕ → ℕ → Option PackPlace
 pack_at set room k = nth k (taken_packs set room)
 
 -- the parts by a pack's places, and nothing where there is none
-abbrev pub bytes_by : List ℕ → NextPack → List ℕ
-bytes_by set Nothing = []
-bytes_by set (Pack p) = part_of p.start p.end set
+abbrev pub bytes_by : List ℕ → Option PackPlace → List ℕ
+bytes_by set None = []
+bytes_by set (Some p) = part_of p.start p.end set
 
-abbrev pub tags_by : List ℕ → NextPack → List ℕ
-tags_by tags Nothing = []
-tags_by tags (Pack p) = part_of p.from p.to tags
+abbrev pub tags_by : List ℕ → Option PackPlace → List ℕ
+tags_by tags None = []
+tags_by tags (Some p) = part_of p.from p.to tags
 
 abbrev pub bytes_at : List ℕ → ℕ → ℕ → List ℕ
 bytes_at set room k = bytes_by set (pack_at set room k)

@@ -1,24 +1,21 @@
 -- Document 02, K7: what a set is refused by, and what is answered of one that is not.
-use Rattle.std.specs.Prelude.{ℕ, suc, ◌+◌, ◌&&◌, List, [], ◌∷◌, eqb, leb, length}
+use Rattle.std.specs.Prelude.{ℕ, suc, ◌+◌, ◌&&◌, List, [], ◌∷◌, eqb, leb, length, None, Some, Option, Ok, Err, Result}
 use Rattle.answers.specs.Table.{Answer, answer, short, wholes, pick, passes, next}
 use Rattle.answers.specs.Listed.{listed}
+use Rattle.answers.specs.declared.Refusal.{Refusal}
 use Rattle.answers.specs.Lent.{leaves}
-use Rattle.layout.specs.declared.size.Peek.{Peek}
-use Rattle.layout.specs.declared.size.Peek.TheVariants as peek
 use Rattle.layout.specs.Size.{peeked}
 use Rattle.sets.specs.declared.item.Item.{Item}
-use Rattle.sets.specs.declared.item.Item.TheVariants.{Read, Faulty}
-use Rattle.sets.specs.declared.set.SetAnswer.{SetAnswer}
-use Rattle.sets.specs.declared.set.SetAnswer.TheVariants.{Done, Refused}
+use Rattle.sets.specs.declared.set.SetCounts.{SetCounts}
 use Rattle.sets.specs.Tags.{pack_tag, is_pushed}
 use Rattle.sets.specs.Parts.{part_of}
 use Rattle.sets.specs.Items.{Placed, items_of}
 use Rattle.sets.specs.Packs.{pushed, tags_of, packs_of}
 
 -- 1 with 0 and 0 for a pack that peek doesn't pass
-abbrev pub peek_rule : Peek → Answer
-peek_rule (peek.Size n) = passes
-peek_rule peek.Nothing = short 0 0
+abbrev pub peek_rule : Option ℕ → Answer
+peek_rule (Some n) = passes
+peek_rule None = short 0 0
 
 abbrev pub pack_rule : List ℕ → ℕ → ℕ → ℕ → Answer
 pack_rule set tag start end = pick (eqb tag pack_tag) (peek_rule (peeked (part_of start end set))) passes
@@ -28,9 +25,9 @@ abbrev pub room_rule : ℕ → ℕ → ℕ → Answer
 room_rule room seen tag = pick (leb room seen && is_pushed tag) (answer 5 (wholes (suc room ∷ room ∷ []))) passes
 
 -- within an item: 10 with its offset where it can't be read, then 1, then 5
-abbrev pub item_rules : List ℕ → ℕ → ℕ → ℕ → Item → Answer
-item_rules set room seen at Faulty = answer 10 (wholes (at ∷ []))
-item_rules set room seen at (Read tag start end) = next (pack_rule set tag start end) (room_rule room seen tag)
+abbrev pub item_rules : List ℕ → ℕ → ℕ → ℕ → Option Item → Answer
+item_rules set room seen at None = answer 10 (wholes (at ∷ []))
+item_rules set room seen at (Some i) = next (pack_rule set i.tag i.start i.end) (room_rule room seen i.tag)
 
 -- the first faulty item decides
 abbrev pub set_rules : List ℕ → ℕ → ℕ → List Placed → Answer
@@ -48,9 +45,9 @@ set_answer set room =
     next (set_rules set room 0 (items_of set))
     (counts (length (packs_of set 0 (items_of set))) (length (tags_of (items_of set))))
 
-abbrev pub set_listed : SetAnswer → Answer
-set_listed (Done packs tags) = counts packs tags
-set_listed (Refused r) = listed r
+abbrev pub set_listed : Result SetCounts Refusal → Answer
+set_listed (Ok c) = counts c.packs c.tags
+set_listed (Err r) = listed r
 
 -- what is left of the list, by the answer: the set's tags over its front, or all as it was
 abbrev pub left_tags : Answer → List ℕ → List ℕ → List ℕ

@@ -1,22 +1,20 @@
 -- What is promised of a set that is taken: its items join up, and the parts that are handed back are its packs.
-use Rattle.std.specs.Prelude.{ℕ, suc, ◌-◌, ◌≤◌, ◌<◌, ◌≡◌, List, [], ◌∷◌, ◌++◌, length, take, drop}
+use Rattle.std.specs.Prelude.{ℕ, suc, ◌-◌, ◌≤◌, ◌<◌, ◌≡◌, List, [], ◌∷◌, ◌++◌, length, take, drop, None, Some, Option}
 use Rattle.answers.specs.Lent.{over}
 use Rattle.layout.specs.Header.{said_size}
 use Rattle.sets.specs.declared.item.Item.{Item}
-use Rattle.sets.specs.declared.item.Item.TheVariants.{Read, Faulty}
 use Rattle.sets.specs.declared.pack.PackPlace.{PackPlace}
-use Rattle.sets.specs.declared.pack.NextPack.TheVariants.{Pack}
 use Rattle.sets.specs.Tags.{pack_tag}
-use Rattle.sets.specs.Items.{Placed, placed, items_of}
+use Rattle.sets.specs.Items.{read, Placed, placed, items_of}
 use Rattle.sets.specs.Packs.{tags_of, packs_of, place, next_pack}
 use Rattle.sets.specs.Rules.{set_answer}
 use Rattle.sets.specs.Handed.{pack_at, bytes_at, tags_at}
 
 -- ---- the items
 -- one that was read, by where its value starts and ends
-abbrev pub WasRead : Item → (ℕ → ℕ → Type 0) → Type 0
-WasRead Faulty holds = ⊥
-WasRead (Read tag start end) holds = holds start end
+abbrev pub WasRead : Option Item → (ℕ → ℕ → Type 0) → Type 0
+WasRead None holds = ⊥
+WasRead (Some i) holds = holds i.start i.end
 
 -- from a place to another: each starts where the one before it ended, and its value lies behind that
 abbrev pub JoinUp : ℕ → List Placed → ℕ → Type 0
@@ -37,7 +35,7 @@ pub record HandedBack (set lent : List ℕ) (k : ℕ) : Type 0 where
   pub at : ℕ
   pub start : ℕ
   pub end : ℕ
-  pub item : items_of set ≡ ahead ++ (placed at (Read pack_tag start end) ∷ rest)
+  pub item : items_of set ≡ ahead ++ (placed at (Some (read pack_tag start end)) ∷ rest)
   pub kth : length (packs_of set 0 ahead) ≡ k
   -- the part of the set is its value, which is never empty
   pub filled : start < end
@@ -56,7 +54,7 @@ pub record Taken (set lent : List ℕ) : Type 0 where
       → (bytes_at set (length lent) k ≡ []) × (tags_at set (over (tags_of (items_of set)) lent) k ≡ [])
   -- a cursor goes from the set's start to its first pack, and from pack to pack
   pub first : next_pack set (place 0 0 0 0) ≡ pack_at set (length lent) 0
-  pub onward : (k : ℕ) (p : PackPlace) → pack_at set (length lent) k ≡ Pack p
+  pub onward : (k : ℕ) (p : PackPlace) → pack_at set (length lent) k ≡ Some p
       → next_pack set p ≡ pack_at set (length lent) (suc k)
 
 -- whatever is not taken hands back nothing

@@ -3,27 +3,18 @@
 ghost use Rattle.std.specs.Prelude.{◌≡◌, length};
 ghost use Rattle.sets.specs.Handed.{pack_at, bytes_at, tags_at};
 
-use crate::pack::{NextPack, PackPlace, next_pack};
+use crate::pack::{PackPlace, next_pack};
 use crate::part::{pack_part, tags_part};
-use crate::set::{SetAnswer, decide};
+use crate::set::decide;
 
 // Its places, or nothing where there is no pack k, or the set is not one that a list of so many tags takes.
-pub fn pack_at(set: &[u8], room: usize, k: usize) -> NextPack
+pub fn pack_at(set: &[u8], room: usize, k: usize) -> Option<PackPlace>
     ensures { result ≡ pack_at set.now room k }
 {
-    let decided = decide(set, room);
-    let SetAnswer::Done { packs: _, tags: _ } = decided else {
-        return NextPack::Nothing;
-    };
+    decide(set, room).ok()?;
     let mut before = PackPlace::NONE;
-    let mut left = k;
-    while 0 < left {
-        let next = next_pack(set, before);
-        let NextPack::Pack(place) = next else {
-            return NextPack::Nothing;
-        };
-        before = place;
-        left -= 1;
+    for _ in 0..k {
+        before = next_pack(set, before)?;
     }
     next_pack(set, before)
 }
@@ -32,8 +23,7 @@ pub fn pack_at(set: &[u8], room: usize, k: usize) -> NextPack
 pub fn pack_of<'a>(set: &'a [u8], tags: &[u32], k: usize) -> &'a [u8]
     ensures { result.now ≡ bytes_at set.now (length tags.now) k }
 {
-    let found = pack_at(set, tags.len(), k);
-    let NextPack::Pack(place) = found else {
+    let Some(place) = pack_at(set, tags.len(), k) else {
         return &set[..0];
     };
     pack_part(set, place)
@@ -43,8 +33,7 @@ pub fn pack_of<'a>(set: &'a [u8], tags: &[u32], k: usize) -> &'a [u8]
 pub fn tags_of<'a>(set: &[u8], tags: &'a [u32], k: usize) -> &'a [u32]
     ensures { result.now ≡ tags_at set.now tags.now k }
 {
-    let found = pack_at(set, tags.len(), k);
-    let NextPack::Pack(place) = found else {
+    let Some(place) = pack_at(set, tags.len(), k) else {
         return &tags[..0];
     };
     tags_part(tags, place)

@@ -8,10 +8,7 @@ use crate::pack::PackPlace;
 pub(crate) fn bytes_from(bytes: &[u8], start: usize, end: usize) -> &[u8]
     ensures { result.now ≡ part_of start end bytes.now }
 {
-    if bytes.len() < end {
-        return &bytes[..0];
-    }
-    if end < start {
+    if bytes.len() < end || end < start {
         return &bytes[..0];
     }
     &bytes[start..end]
@@ -30,10 +27,7 @@ pub fn tags_part(tags: &[u32], place: PackPlace) -> &[u32]
 {
     let from = place.from;
     let to = place.to;
-    if tags.len() < to {
-        return &tags[..0];
-    }
-    if to < from {
+    if tags.len() < to || to < from {
         return &tags[..0];
     }
     &tags[from..to]

@@ -11,69 +11,60 @@ ghost use Rattle.sets.specs.Rules.{peek_rule, pack_rule, room_rule, set_listed, 
 use crate::item::{Item, read_item};
 use crate::part::bytes_from;
 use crate::tag::{PACK, is_pushed, pack_count, tag_count};
-use answers::{Check, Refusal};
-use layout::size::{Peek, peek_matrix_size};
+use answers::Refusal;
+use layout::size::peek_matrix_size;
 
-// How many packs a set has, and how many tags; or why it is refused.
-#[derive(Clone, Copy)]
-pub enum SetAnswer {
-    Done { packs: usize, tags: usize },
-    Refused(Refusal),
+// How many packs a set has, and how many tags.
+#[derive(Clone, Copy, Debug, PartialEq, Eq)]
+pub struct SetCounts {
+    pub packs: usize,
+    pub tags: usize,
 }
 
 // A pack is to pass peek.
-fn check_pack(pack: &[u8]) -> Check
+fn check_pack(pack: &[u8]) -> Result<(), Refusal>
     ensures { checked result ≡ peek_rule (peeked pack.now) }
 {
-    let peek = peek_matrix_size(pack);
-    let Peek::Size(_) = peek else {
-        return Check::Refused(Refusal::TruncatedField { needed: 0, got: 0 });
-    };
-    Check::Passes
+    peek_matrix_size(pack).ok_or(Refusal::TruncatedField { needed: 0, got: 0 })?;
+    Ok(())
 }
 
 // The rules of an item that was read, with so many tags seen before it and room for so many.
-fn check_item(set: &[u8], tag: u32, start: usize, end: usize, seen: usize, room: usize) -> Check
+fn check_item(set: &[u8], item: Item, seen: usize, room: usize) -> Result<(), Refusal>
     requires { (seen ≤ room) × (seen < length set.now) }
     ensures { checked result
-        ≡ next (pack_rule set.now tag start end) (room_rule room seen tag) }
+        ≡ next (pack_rule set.now item.tag item.start item.end) (room_rule room seen item.tag) }
 {
-    if tag == PACK {
-        return check_pack(bytes_from(set, start, end));
+    if item.tag == PACK {
+        return check_pack(bytes_from(set, item.start, item.end));
     }
     if seen < room {
-        return Check::Passes;
+        return Ok(());
     }
-    if is_pushed(tag) {
-        return Check::Refused(Refusal::BufferTooSmall {
+    if is_pushed(item.tag) {
+        return Err(Refusal::BufferTooSmall {
             needed: seen + 1,
             got: room,
         });
     }
-    Check::Passes
+    Ok(())
 }
 
 // The first faulty item decides.
-pub(crate) fn decide(set: &[u8], room: usize) -> SetAnswer
+pub(crate) fn decide(set: &[u8], room: usize) -> Result<SetCounts, Refusal>
     ensures { set_listed result ≡ set_answer set.now room }
 {
     let mut packs: usize = 0;
     let mut seen: usize = 0;
     let mut at: usize = 0;
     while at < set.len() {
-        let item = read_item(set, at);
-        let Item::Read { tag, start, end } = item else {
-            return SetAnswer::Refused(Refusal::MalformedItem { offset: at });
-        };
-        let check = check_item(set, tag, start, end, seen, room);
-        if let Check::Refused(refusal) = check {
-            return SetAnswer::Refused(refusal);
-        }
-        packs += pack_count(tag);
-        seen += tag_count(tag);
-        at = end;
+        let item = read_item(set, at).ok_or(Refusal::MalformedItem { offset: at })?;
+        check_item(set, item, seen, room)?;
+        packs += pack_count(item.tag);
+        seen += tag_count(item.tag);
+        at = item.end;
     }
-    SetAnswer::Done { packs, tags: seen }
+    Ok(SetCounts { packs, tags: seen })
 }
 
 // The tags of a set that has no faulty item, from the front on.
@@ -83,28 +74,21 @@ fn store_tags(set: &[u8], tags: &mut [u32])
 {
     let mut seen: usize = 0;
     let mut at: usize = 0;
-    while at < set.len() {
-        let item = read_item(set, at);
-        let Item::Read { tag, start: _, end } = item else {
-            return;
-        };
-        if is_pushed(tag) {
-            tags[seen] = tag;
+    while let Some(item) = read_item(set, at) {
+        if is_pushed(item.tag) {
+            tags[seen] = item.tag;
             seen += 1;
         }
-        at = end;
+        at = item.end;
     }
 }
 
 // The tags of the set into the front of the list, in their order; a set that is refused leaves the list as it was.
-pub fn read_set(set: &[u8], tags: &mut [u32]) -> SetAnswer
+pub fn read_set(set: &[u8], tags: &mut [u32]) -> Result<SetCounts, Refusal>
     ensures { (set_listed result ≡ set_answer set.now (length tags.old))
         × (tags.new ≡ left_tags (set_listed result) set.now tags.old) }
 {
-    let decided = decide(set, tags.len());
-    let SetAnswer::Done { packs: _, tags: _ } = decided else {
-        return decided;
-    };
+    let counts = decide(set, tags.len())?;
     store_tags(set, tags);
-    decided
+    Ok(counts)
 }

@@ -12,10 +12,7 @@ pub const CHECKSUM: u32 = 1;
 pub fn is_pushed(tag: u32) -> bool
     ensures { result ≡ is_pushed tag }
 {
-    if tag == PACK {
-        return false;
-    }
-    tag != CHECKSUM
+    tag != PACK && tag != CHECKSUM
 }
 
 // How many tags an item of that tag pushes.

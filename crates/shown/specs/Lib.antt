@@ -1,4 +1,3 @@
-pub mod Tags
 pub mod Bytes
 pub mod Lines
 pub mod Touched

@@ -1,19 +1,18 @@
 -- What was read, behind its reply.
-use Rattle.std.specs.Prelude.{ℕ, Bool, ◌||◌, List, ◌++◌}
+use Rattle.std.specs.Prelude.{ℕ, Bool, ◌||◌, List, ◌++◌, Err, Ok, Result}
 use Rattle.text.specs.Marks.{byte_mark, word_mark, unmarked_from}
 use Rattle.layout.specs.declared.pack.SdccFlp.{SdccFlp}
-use Rattle.reader.specs.declared.read.ReadAnswer.{ReadAnswer}
-use Rattle.reader.specs.declared.read.ReadAnswer.TheVariants.{Done, Refused}
 use Rattle.replies.specs.Replies.{read_reply}
 use Rattle.replies.specs.ReplyText.{reply_text}
 use Rattle.shown.specs.declared.pack.Lent.{Lent}
 use Rattle.shown.specs.Lines.{deviation_lines, slot_lines}
 use Rattle.shown.specs.Touched.{touched_text}
+use Rattle.answers.specs.declared.Refusal.{Refusal}
 
 -- nothing of a pack that was refused
-abbrev pub pack_of : ReadAnswer → SdccFlp
-pack_of (Done pack) = pack
-pack_of (Refused _) = record { matrix_size = 0; deviations = 0; slots = 0 }
+abbrev pub pack_of : Result SdccFlp Refusal → SdccFlp
+pack_of (Ok pack) = pack
+pack_of (Err _) = record { matrix_size = 0; deviations = 0; slots = 0 }
 
 -- of what is lent, the marks are to stand behind the pack's own
 abbrev pub is_touched : Lent → SdccFlp → List ℕ → List ℕ → List ℕ → Bool
@@ -23,7 +22,7 @@ is_touched lent p ds cs ss =
     || unmarked_from byte_mark p.slots lent.states ss)
 
 -- the counts or the refusal, the deviations, the slots
-abbrev pub read_text : Lent → ReadAnswer → List ℕ → List ℕ → List ℕ → List ℕ
+abbrev pub read_text : Lent → Result SdccFlp Refusal → List ℕ → List ℕ → List ℕ → List ℕ
 read_text lent r ds cs ss =
     reply_text (read_reply r)
     ++ deviation_lines (pack_of r).deviations ds

@@ -1,11 +1,10 @@
 //! Bytes behind a reply: those that were written, in hex, or a text.
 ghost use Rattle.std.specs.Prelude.{◌≡◌};
-ghost use Rattle.text.specs.Put.{Put};
+ghost use Rattle.text.specs.Page.{Adds};
 ghost use Rattle.shown.specs.Bytes.{of_text, byte_text, bytes_text};
 
 use replies::forms::DONE;
-use text::part::within;
-use text::put::{put_byte, put_hex};
+use text::page::Page;
 
 // A byte of a text: lines are joined by `;`.
 fn of_text(byte: u8) -> u8
@@ -15,25 +14,20 @@ fn of_text(byte: u8) -> u8
 }
 
 // A byte of what is done is in hex; any other is of a text.
-fn put_shown(form: usize, byte: u8, at: usize, out: &mut [u8]) -> usize
-    ensures { Put (byte_text form byte) at out.old result out.new }
+fn put_shown(form: usize, byte: u8, page: &mut Page<'_>)
+    ensures { Adds (byte_text form byte) page.old page.new }
 {
     if form == DONE {
-        put_hex(byte as u64, 2, at, out)
+        page.hex(byte as u64, 2);
     } else {
-        put_byte(of_text(byte), at, out)
+        page.byte(of_text(byte));
     }
 }
 
-pub fn put_bytes(form: usize, bytes: &[u8], at: usize, out: &mut [u8]) -> usize
-    ensures { Put (bytes_text form bytes.now) at out.old result out.new }
+pub fn put_bytes(form: usize, bytes: &[u8], page: &mut Page<'_>)
+    ensures { Adds (bytes_text form bytes.now) page.old page.new }
 {
-    let mut next = within(at, out);
-    let mut i: usize = 0;
-    while i < bytes.len() {
-        let byte = bytes[i];
-        i += 1;
-        next = put_shown(form, byte, next, out);
+    for &byte in bytes {
+        put_shown(form, byte, page);
     }
-    next
 }

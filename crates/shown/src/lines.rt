@@ -1,12 +1,13 @@
 //! The lines of a pack behind its reply, each behind a `;`: an s for each deviation, then a c for each slot.
 ghost use Rattle.std.specs.Prelude.{◌≡◌, ◌+◌, ◌<◌, ◌^◌};
-ghost use Rattle.text.specs.Put.{Put};
+ghost use Rattle.text.specs.Page.{Adds};
 ghost use Rattle.shown.specs.Lines.{deviation_reply, deviation_lines, slot_reply, next_pair, slot_lines};
 
 use replies::forms::{DEVIATION, SLOT};
 use replies::put::put_reply;
 use replies::reply::Reply;
-use text::part::{within, within_words};
+use text::page::Page;
+use text::part::within;
 
 fn deviation(row: usize, bits: u64) -> Reply
     ensures { result ≡ deviation_reply row bits }
@@ -21,19 +22,13 @@ fn deviation(row: usize, bits: u64) -> Reply
 }
 
 // As many as there are, up to a count.
-pub fn put_deviations(count: usize, deviations: &[u64], at: usize, out: &mut [u8]) -> usize
-    ensures { Put (deviation_lines count deviations.now) at out.old result out.new }
+pub fn put_deviations(count: usize, deviations: &[u64], page: &mut Page<'_>)
+    ensures { Adds (deviation_lines count deviations.now) page.old page.new }
 {
-    let end = within_words(count, deviations);
-    let mut next = within(at, out);
-    let mut i: usize = 0;
-    while i < end {
-        let bits = deviations[i];
-        let line = deviation(i, bits);
-        i += 1;
-        next = put_reply(line, next, out);
+    let end = within(count, deviations);
+    for (i, &bits) in deviations[..end].iter().enumerate() {
+        put_reply(deviation(i, bits), page);
     }
-    next
 }
 
 // Where a slot stands.
@@ -74,27 +69,14 @@ fn slot(pair: Pair, state: u8, bits: u64) -> Reply
 }
 
 // As many as there are, up to a count, of a matrix of so many rows.
-pub fn put_slots(
-    rows: u64,
-    count: usize,
-    correlations: &[u64],
-    states: &[u8],
-    at: usize,
-    out: &mut [u8],
-) -> usize
-    ensures { Put (slot_lines rows count correlations.now states.now)
-        at out.old result out.new }
+pub fn put_slots(rows: u64, count: usize, correlations: &[u64], states: &[u8], page: &mut Page<'_>)
+    ensures { Adds (slot_lines rows count correlations.now states.now)
+        page.old page.new }
 {
-    let held = within_words(count, correlations);
-    let end = within(held, states);
-    let mut next = within(at, out);
+    let held = within(count, correlations);
     let mut pair = Pair { i: 0, j: 1 };
-    let mut k: usize = 0;
-    while k < end {
-        let line = slot(pair, states[k], correlations[k]);
+    for (&bits, &state) in correlations[..held].iter().zip(states) {
+        put_reply(slot(pair, state, bits), page);
         pair = next_pair(pair, rows);
-        k += 1;
-        next = put_reply(line, next, out);
     }
-    next
 }

@@ -1,15 +1,16 @@
 //! What a function that reads a pack answers, and what it leaves in the lists that it is lent.
 ghost use Rattle.std.specs.Prelude.{◌≡◌};
-ghost use Rattle.text.specs.Put.{Put};
+ghost use Rattle.text.specs.Page.{Adds};
 ghost use Rattle.shown.specs.Pack.{pack_of, is_touched, read_text};
 
 use crate::lines::{put_deviations, put_slots};
 use crate::touched::put_touched;
+use answers::Refusal;
 use layout::pack::SdccFlp;
-use reader::read::ReadAnswer;
 use replies::pack::of_read;
 use replies::put::put_reply;
 use text::marks;
+use text::page::Page;
 
 // How much is lent of each list.
 #[derive(Clone, Copy)]
@@ -20,17 +21,14 @@ pub struct Lent {
 }
 
 // What was read; nothing of a pack that was refused.
-fn pack_of(read: ReadAnswer) -> SdccFlp
+fn pack_of(read: Result<SdccFlp, Refusal>) -> SdccFlp
     ensures { result ≡ pack_of read }
 {
-    match read {
-        ReadAnswer::Done(pack) => pack,
-        ReadAnswer::Refused(_) => SdccFlp {
-            matrix_size: 0,
-            deviations: 0,
-            slots: 0,
-        },
-    }
+    read.unwrap_or(SdccFlp {
+        matrix_size: 0,
+        deviations: 0,
+        slots: 0,
+    })
 }
 
 // Whether an entry that was lent, past those of the pack, is without its mark.
@@ -44,10 +42,10 @@ fn touched(
     ensures { result ≡ is_touched lent pack
         deviations.now correlations.now states.now }
 {
-    if marks::words_changed(deviations, pack.deviations, lent.deviations) {
+    if marks::changed(deviations, pack.deviations, lent.deviations) {
         return true;
     }
-    if marks::words_changed(correlations, pack.slots, lent.correlations) {
+    if marks::changed(correlations, pack.slots, lent.correlations) {
         return true;
     }
     marks::changed(states, pack.slots, lent.states)
@@ -55,31 +53,19 @@ fn touched(
 
 pub fn put_pack(
     lent: Lent,
-    read: ReadAnswer,
+    read: Result<SdccFlp, Refusal>,
     deviations: &[u64],
     correlations: &[u64],
     states: &[u8],
-    at: usize,
-    out: &mut [u8],
-) -> usize
-    ensures { Put (read_text lent read
+    page: &mut Page<'_>,
+)
+    ensures { Adds (read_text lent read
         deviations.now correlations.now states.now)
-        at out.old result out.new }
+        page.old page.new }
 {
     let pack = pack_of(read);
-    let said = put_reply(of_read(read), at, out);
-    let rowed = put_deviations(pack.deviations, deviations, said, out);
-    let lined = put_slots(
-        pack.matrix_size,
-        pack.slots,
-        correlations,
-        states,
-        rowed,
-        out,
-    );
-    put_touched(
-        touched(lent, pack, deviations, correlations, states),
-        lined,
-        out,
-    )
+    put_reply(of_read(read), page);
+    put_deviations(pack.deviations, deviations, page);
+    put_slots(pack.matrix_size, pack.slots, correlations, states, page);
+    put_touched(touched(lent, pack, deviations, correlations, states), page);
 }

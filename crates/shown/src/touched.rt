@@ -1,17 +1,18 @@
 //! The end of an answer: whether a function changed what it was to leave.
-ghost use Rattle.text.specs.Put.{Put};
+ghost use Rattle.text.specs.Page.{Adds};
 ghost use Rattle.shown.specs.Touched.{touched_text};
 
 use replies::forms::{EMPTY, TOUCHED};
 use replies::put::put_reply;
 use replies::reply::words;
+use text::page::Page;
 
-pub fn put_touched(changed: bool, at: usize, out: &mut [u8]) -> usize
-    ensures { Put (touched_text changed) at out.old result out.new }
+pub fn put_touched(changed: bool, page: &mut Page<'_>)
+    ensures { Adds (touched_text changed) page.old page.new }
 {
     if changed {
-        put_reply(words(TOUCHED), at, out)
+        put_reply(words(TOUCHED), page);
     } else {
-        put_reply(words(EMPTY), at, out)
+        put_reply(words(EMPTY), page);
     }
 }

@@ -1,17 +1,18 @@
 -- The codes of a full pack: every slot is sent. The first ones by words, and the last ones, behind them, by themselves.
 -- Assumes nothing.
-use mathlib.Core.Path.{◌≡◌, refl, sym}
+use mathlib.Core.Path.{◌≡◌, refl, sym, ◌∙◌}
 use mathlib.Core.Bool.{false}
 use mathlib.Core.List.{List}
 use Prim.Native.Nat.{ℕ, ◌+◌, ◌-◌, ◌*◌, ◌≤◌, ◌<◌}
 use native.Mathlib.Nat.{zero-add, add-mul, mul-le-mul_right}
 use native.Mathlib.Omega.{arith}
-use lib.ListN.{length, get_or}
-use lib.Seq.{sets}
+use lib.ListN.{length, take, drop, get_or, length-drop}
+use lib.Seq.{sets, length-take-le}
 use lib.Ieee.{binary64, of_bits}
+use Rattle.std.proofs.lemmas.List.{get_or-take, get_or-drop}
 use Rattle.answers.specs.Lent.{joined}
 use Rattle.answers.proofs.Joined.{joined-add, length-joined}
-use Rattle.answers.proofs.Runs.{Run, run_none, run_room, run_more, run-done}
+use Rattle.answers.proofs.Runs.{Run, run_none, run_room, run_more}
 use Rattle.answers.proofs.Stored.{sets-cover}
 use Rattle.numbers.proofs.Bytes.{length-bytes}
 use Rattle.imapb.specs.Mapping.{code_of}
@@ -89,27 +90,36 @@ module _ {cs : List ℕ} {n L at : ℕ} {l₀ : List ℕ} where
         let e : k ≡ n = omega (arith, r.within) in
         rw e at r.run.run.is
 
--- ---- the plain loop from slot `from` on, at slot k
-pub record Last (cs : List ℕ) (from L at : ℕ) (l₀ : List ℕ) (k : ℕ) (l : List ℕ) (next : ℕ) : Type 0 where
-  pub past : from ≤ k
-  pub run : Run (length cs - from) (λ j. code_bytes false cs L (from + j)) at l₀ (k - from) l next
+-- the first correlations
+module _ (cs : List ℕ) {n k : ℕ} (t : n ≤ length cs) (h : k < length (take n cs)) where
+  pub first-left : k < n
+  first-left = omega (arith, length-take-le n cs t)
 
-module _ {cs : List ℕ} {from L at : ℕ} {l₀ : List ℕ} where
-  pub last_none : at + (length cs - from) * L ≤ length l₀ → Last cs from L at l₀ from l₀ at
-  last_none h =
-      let e : from - from ≡ 0 = omega arith in
-      record { past = omega arith; run = rw e (run_none (rw (length-codes cs L from (length cs - from)) h)) }
+  pub first-is : get_or (take n cs) k 0 ≡ get_or cs k 0
+  first-is = get_or-take n cs k 0 first-left
 
-  module _ {k : ℕ} {l : List ℕ} {next : ℕ} (r : Last cs from L at l₀ k l next) where
-    module _ (h : k < length cs) where
+-- ---- the plain loop from slot `from` on, after k turns
+abbrev pub Last : (cs : List ℕ) (from L at : ℕ) (l₀ : List ℕ) (k : ℕ) (l : List ℕ) (next : ℕ) → Type 0
+Last cs from L at l₀ = Run (length cs - from) (λ j. code_bytes false cs L (from + j)) at l₀
+
+module _ (cs : List ℕ) (from : ℕ) where
+  pub last_none : (L : ℕ) {at : ℕ} {l₀ : List ℕ} → at + (length cs - from) * L ≤ length l₀ → Last cs from L at l₀ 0 l₀ at
+  last_none L h = run_none (rw (length-codes cs L from (length cs - from)) h)
+
+  -- the correlations from there on
+  abbrev rest : List ℕ
+  rest = take (length cs - from) (drop from cs)
+
+  module _ {k : ℕ} (h : k < length rest) where
+    left : k < length cs - from
+    left = omega (arith, length-take-le (length cs - from) (drop from cs) (rw length-drop (omega arith)))
+
+    pub rest-is : get_or rest k 0 ≡ get_or cs (from + k) 0
+    rest-is = get_or-take (length cs - from) (drop from cs) k 0 left ∙ get_or-drop from cs k 0
+
+    module _ (L : ℕ) {at : ℕ} {l₀ l : List ℕ} {next : ℕ} (r : Last cs from L at l₀ k l next) where
       pub last-room : next + L ≤ length l
-      last-room = rw length-bytes at (run_room r.run (omega (arith, r.past)))
+      last-room = rw length-bytes at (run_room r left)
 
-      pub last_more : {m : List ℕ} → m ≡ sets l next (coded L (get_or cs k 0)) → Last cs from L at l₀ (k + 1) m (next + L)
-      last_more e =
-          let p : k + 1 - from ≡ k - from + 1 = omega (arith, r.past) in
-          let q : from + (k - from) ≡ k = omega (arith, r.past) in
-          record { past = omega (arith, r.past); run = rw p (run_more r.run (omega (arith, r.past)) (rw q e) (rw length-bytes)) }
-
-    pub last_done : length cs ≤ k → l ≡ sets l₀ at (codes cs L from (length cs - from))
-    last_done h = run-done r.run (omega (arith, r.past))
+      pub last_more : {m : List ℕ} → m ≡ sets l next (coded L (get_or rest k 0)) → Last cs from L at l₀ (k + 1) m (next + L)
+      last_more e = run_more r left (rw rest-is at e) (rw length-bytes)

@@ -3,7 +3,7 @@
 use mathlib.Core.Path.{◌≡◌, refl, sym}
 use mathlib.Core.Bool.{Bool, true, false, not}
 use mathlib.Core.List.{List, []}
-use Prim.Native.Nat.{ℕ, zero, suc, ◌+◌, ◌-◌, ◌*◌, ◌/◌, ◌≤◌}
+use Prim.Native.Nat.{ℕ, zero, suc, ◌+◌, ◌-◌, ◌*◌, ◌/◌}
 use native.Mathlib.Nat.{zero-mul, suc-mul}
 use native.Mathlib.Omega.{arith}
 use lib.ListN.{length, get_or, length-append}
@@ -42,14 +42,14 @@ module _ (cs : List ℕ) (L : ℕ) where
   pub length-5 : (sparse : Bool) → length (element5 sparse cs L) ≡ sent_count sparse (length cs) (zeros_before cs (length cs)) * L
   length-5 sparse = length-sent sparse (length cs)
 
--- where no rule refuses, and the plan ends within the room
-pub slots-fit : (n : ℕ) (cs : List ℕ) (L room : ℕ) → (plan_rules n cs L).number ≡ 0 → let p = pack_plan n cs L in
-    p.end ≤ room → SlotsFit p.sparse cs L p.vector p.codes p.end room
-slots-fit n cs L room e h =
+-- where no rule refuses
+pub slots-fit : (n : ℕ) (cs : List ℕ) (L : ℕ) → (plan_rules n cs L).number ≡ 0 → let p = pack_plan n cs L in
+    SlotsFit p.sparse cs L p.vector p.codes p.end p.end
+slots-fit n cs L e =
     record {
       codable = record { clen = (plan-counts n cs L e).clen; values = plan-values n cs L e };
       slots = (plan-counts n cs L e).slots;
       behind = rw length-3 (omega arith);
       ends = rw length-5;
-      within = h;
+      within = omega arith;
     }

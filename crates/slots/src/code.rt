@@ -8,16 +8,16 @@ ghost use Rattle.imapb.specs.Mapping.{code_of, in_range};
 ghost use Rattle.plan.specs.Rules.{Supported};
 ghost use Rattle.slots.specs.Slots.{coded};
 
-use imapb::encode::{ImapbCode, imapb_code};
+use imapb::encode::imapb_code;
 use numbers::words::write_be;
 
 // The code of a correlation, from a place on.
+// A place and a slice, no Page (text/src/page.rt): each store is proved to fit there, and two places move at once.
 pub(crate) fn put_slot(value: u64, clen: usize, at: usize, out: &mut [u8])
     requires { Supported clen × T (in_range (of_bits binary64 value)) × (at + clen ≤ length out.old) }
     ensures { out.new ≡ sets out.old at (coded clen value) }
 {
-    let code = imapb_code(clen, value);
-    let ImapbCode::Of(y) = code else {
+    let Some(y) = imapb_code(clen, value) else {
         return;
     };
     let end = at + clen;

@@ -5,4 +5,5 @@
 mod code;
 mod full;
 mod marked;
+mod planned;
 pub mod write;

@@ -15,14 +15,14 @@ use Rattle.answers.proofs.Rules.{picked}
 use Rattle.answers.proofs.Stored.{sets_over}
 use Rattle.text.specs.declared.numeral.Entry.{Entry}
 use Rattle.text.specs.declared.numeral.Numeral.{Numeral}
-use Rattle.text.specs.declared.numeral.Numeral.TheVariants.{Read, Malformed}
-use Rattle.text.specs.Numeral.{whether, decimal_at, decimal_up_to, spaced_at}
+use Rattle.std.specs.Prelude.{Option, None, Some}
+use Rattle.text.specs.Numeral.{numeral, whether, decimal_at, decimal_up_to, spaced_at}
 use Rattle.text.specs.Entries.{entries_from, entries_at, numbers_at, list_at, listed_at}
 
 -- no more entries than are asked for
-one_more : (n : ℕ) (f : ℕ → List ℕ) → ((next : ℕ) → length (f next) ≤ n) → (number : Numeral) → length (whether number (λ value next. value ∷ f next) []) ≤ suc n
-one_more n f h (Read value next) = omega (arith, h next)
-one_more n f h Malformed = omega arith
+one_more : (n : ℕ) (f : ℕ → List ℕ) → ((next : ℕ) → length (f next) ≤ n) → (number : Option Numeral) → length (whether number (λ value next. value ∷ f next) []) ≤ suc n
+one_more n f h (Some number) = omega (arith, h number.next)
+one_more n f h None = omega arith
 
 pub length-numbers : (entry : Entry) (n : ℕ) (line : List ℕ) (at : ℕ) → length (numbers_at entry n line at) ≤ n
 length-numbers entry zero line at = omega arith
@@ -53,8 +53,8 @@ module _ {entry : Entry} {line : List ℕ} {at : ℕ} {l₀ : List ℕ} where
     one_left : i < length l₀ → length l₀ - i ≡ suc (length l₀ - (i + 1))
     one_left h = omega arith
 
-    pub entered-more : i < length l₀ → {value after : ℕ} → spaced_at entry line next ≡ Read value after
-        → Entered entry line at l₀ (set l i value) after (i + 1)
+    pub entered-more : i < length l₀ → {number : Numeral} → spaced_at entry line next ≡ Some number
+        → Entered entry line at l₀ (set l i number.value) number.next (i + 1)
     entered-more h q =
         record {
           long = rw length-set p.long;
@@ -63,12 +63,12 @@ module _ {entry : Entry} {line : List ℕ} {at : ℕ} {l₀ : List ℕ} where
           stores = rw (add-one i) (rw (one_left h, q, add-one i) at p.stores);
         }
 
-    pub entered-bad : i < length l₀ → spaced_at entry line next ≡ Malformed
-        → (Malformed ≡ entries_at entry (length l₀) line at) × (l ≡ over (numbers_at entry (length l₀) line at) l₀)
+    pub entered-bad : i < length l₀ → spaced_at entry line next ≡ None
+        → (None ≡ entries_at entry (length l₀) line at) × (l ≡ over (numbers_at entry (length l₀) line at) l₀)
     entered-bad h q = (rw (one_left h, q) at p.answers, kept entry line at l₀ (rw (one_left h, q) at p.stores))
 
     pub entered_all : length l₀ ≤ i
-        → (Read (length l₀) next ≡ entries_at entry (length l₀) line at)
+        → (Some (numeral (length l₀) next) ≡ entries_at entry (length l₀) line at)
         × (l ≡ over (numbers_at entry (length l₀) line at) l₀)
     entered_all h =
         let e : length l₀ - i ≡ 0 = omega arith in
@@ -81,30 +81,30 @@ over-front front l n h k =
     ∙ ap (λ (t : List ℕ). front ++ t) (sym (drop-append-le (length front) (take n l) (drop n l) (rw (length-take-le n l k) h)) ∙ rw (take-append-drop n l))
 
 -- ---- a list in a room: its count is at most the limit
-limited : (limit : ℕ) (number : Numeral) {count next : ℕ}
-    → whether number (λ value after. pick (leb value limit) (Read value after) Malformed) Malformed ≡ Read count next → count ≤ limit
-limited limit (Read value after) {count} {next} =
-    picked (λ (n : Numeral). n ≡ Read count next → count ≤ limit) (leb value limit) (Read value after) Malformed
-    (λ t q. let e : value ≡ count = cc in omega (arith, leb-true value limit t))
+limited : (limit : ℕ) (number : Option Numeral) {count : Numeral}
+    → whether number (λ value after. pick (leb value limit) (Some (numeral value after)) None) None ≡ Some count → count.value ≤ limit
+limited limit (Some number) {count} =
+    picked (λ (n : Option Numeral). n ≡ Some count → count.value ≤ limit) (leb number.value limit) (Some number) None
+    (λ t q. let e : number.value ≡ count.value = cc in omega (arith, leb-true number.value limit t))
     (λ _ q. let z : ◌≡◌ {A = ℕ} 0 1 = cc in absurd (omega arith))
-limited limit Malformed = λ e. let z : ◌≡◌ {A = ℕ} 0 1 = cc in absurd (omega arith)
+limited limit None = λ e. let z : ◌≡◌ {A = ℕ} 0 1 = cc in absurd (omega arith)
 
-module _ (line room : List ℕ) (at : ℕ) {count next : ℕ} (q : decimal_up_to (length room) line at ≡ Read count next) where
-  pub listed-within : count ≤ length room
+module _ (line room : List ℕ) (at : ℕ) {count : Numeral} (q : decimal_up_to (length room) line at ≡ Some count) where
+  pub listed-within : count.value ≤ length room
   listed-within = limited (length room) (decimal_at line at) q
 
-  pub listed-front : length (take count room) ≡ count
-  listed-front = length-take-le count room listed-within
+  pub listed-front : length (take count.value room) ≡ count.value
+  listed-front = length-take-le count.value room listed-within
 
   -- what is read into the room's front is the list
-  pub listed-all : (entry : Entry) {r : Numeral} {m : List ℕ}
-      → (r ≡ entries_at entry (length (take count room)) line next)
-      × (m ≡ over (numbers_at entry (length (take count room)) line next) (take count room))
+  pub listed-all : (entry : Entry) {r : Option Numeral} {m : List ℕ}
+      → (r ≡ entries_at entry (length (take count.value room)) line count.next)
+      × (m ≡ over (numbers_at entry (length (take count.value room)) line count.next) (take count.value room))
       → (r ≡ list_at entry (length room) line at)
-      × (m ++ drop count room ≡ over (listed_at entry (length room) line at) room)
+      × (m ++ drop count.value room ≡ over (listed_at entry (length room) line at) room)
   listed-all entry (a, b) = (
     rw q (rw listed-front at a),
-    ap (λ (l : List ℕ). l ++ drop count room) (rw listed-front at b)
-        ∙ over-front (numbers_at entry count line next) room count (length-numbers entry count line next) listed-within
+    ap (λ (l : List ℕ). l ++ drop count.value room) (rw listed-front at b)
+        ∙ over-front (numbers_at entry count.value line count.next) room count.value (length-numbers entry count.value line count.next) listed-within
         ∙ rw q,
   )

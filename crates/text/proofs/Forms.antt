@@ -4,13 +4,15 @@ use mathlib.Core.Path.{◌≡◌, refl, sym, ap, ◌∙◌}
 use mathlib.Core.Bool.{Bool, true, false, true≢false}
 use mathlib.Core.List.{List, [], ◌∷◌, ◌++◌}
 use mathlib.Core.Logic.{⊎_elim}
-use Prim.Native.Nat.{ℕ, zero, suc, ◌+◌, ◌*◌, ◌≤◌, ◌<◌, max}
-use native.Mathlib.Nat.{suc-mul}
+use Prim.Native.Nat.{ℕ, zero, suc, ◌+◌, ◌*◌, ◌/◌, ◌≤◌, ◌<◌, max}
+use native.Mathlib.Nat.{suc-mul, mul-div_cancel}
 use native.Mathlib.Omega.{arith}
+use borrow.Author.Tests.{leb-true, leb-false}
+use lib.Dec.{leb}
 use lib.ListN.{length, length-append, get_or, drop, drop_of_length-le, get_or-append, get_or-eq_default}
 use lib.Seq.{drop-cons, get_or-append-add}
 use Rattle.answers.proofs.Rules.{picked}
-use Rattle.text.specs.Forms.{spread}
+use Rattle.text.specs.Forms.{spread, letter_in}
 use Rattle.text.proofs.Order.{lt-or-le}
 
 -- ---- what is left of a form: its letter at i, a mark that ends past its end, and the rest
@@ -87,6 +89,24 @@ module _ (mark : ℕ) where
 
     pub no-letter : longest length forms ≤ i → get_or (get_or forms k []) i mark ≡ mark
     no-letter h = get_or-eq_default (get_or forms k []) mark {n = i} (omega (arith, within length refl forms k))
+
+-- the table's rule
+module _ (mark width : ℕ) (forms : List (List ℕ)) (positive : 0 < width) (fit : longest length forms ≤ width) where
+  tabled-long : (forms : List (List ℕ)) → length (tabled mark width forms) ≡ length forms * width
+  tabled-long [] = omega arith
+  tabled-long (form ∷ forms) = rw (length-append, padded-long mark width form, tabled-long forms) (omega (arith, suc-mul (length forms) width))
+
+  rows : length (tabled mark width forms) / width ≡ length forms
+  rows = rw (tabled-long forms) (mul-div_cancel (length forms) positive)
+
+  pub tabled-is : (k i : ℕ) → letter_in (tabled mark width forms) width mark k i ≡ get_or (get_or forms k []) i mark
+  tabled-is k i =
+      let letter = get_or (get_or forms k []) i mark in
+      picked (λ (l : ℕ). l ≡ letter) (leb width i) mark _
+      (λ t. sym (no-letter mark forms k i (omega (arith, leb-true width i t, fit))))
+      (λ f. picked (λ (l : ℕ). l ≡ letter) (leb (length (tabled mark width forms) / width) k) mark _
+      (λ t. sym (no-form mark forms k i (omega (arith, rows, leb-true _ k t))))
+      (λ g. letter_at mark width forms k i 0 (omega (arith, rows, leb-false _ k g)) (omega (arith, leb-false width i f))))
 
 -- ---- how long the text of a form is at most, where each letter's has a bound
 module _ (most : ℕ → ℕ) where

@@ -1,5 +1,6 @@
 pub mod Order
 pub mod Pieces
+pub mod Adding
 pub mod Figures
 pub mod Forms
 pub mod Line

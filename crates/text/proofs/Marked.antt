@@ -1,35 +1,34 @@
--- Entries that are looked at one by one for a mark, from a place on.
+-- Marks in lent memory: what a search for another entry finds.
 -- Assumes nothing.
-use mathlib.Core.Path.{◌≡◌}
-use mathlib.Core.Bool.{true, false}
-use mathlib.Core.List.{List, ◌∷◌}
-use Prim.Native.Nat.{ℕ, ◌+◌, ◌≤◌, ◌<◌, min}
-use native.Mathlib.Numerals.{add-one}
-use native.Mathlib.Omega.{arith}
-use borrow.Author.Tests.{eq-eqb, ne_eqb}
-use lib.ListN.{length, drop, take, get_or, length-take, drop_of_length-le}
-use lib.Seq.{drop-cons, get_or-take}
-use Rattle.text.specs.Marks.{unmarked_from}
+use mathlib.Core.Path.{◌≡◌, refl, sym, subst}
+use mathlib.Core.Bool.{Bool, true, false, not}
+use mathlib.Core.List.{List, [], ◌∷◌, ◌++◌}
+use Prim.Native.Nat.{ℕ, ◌≤◌}
+use lib.ListN.{length, take, drop}
+use lib.Seq.{length-take-le}
+use Rattle.std.proofs.Math.ListN.{replicate}
+use Rattle.std.specs.List.{list_any}
+use Rattle.text.specs.Marks.{IsClonedAs, marked, unmarked}
 
--- ---- a loop that has found the mark up to i
-pub record Passed (mark from count : ℕ) (lent : List ℕ) (end i : ℕ) : Type 0 where
-  pub last : end ≡ min count (length lent)
-  pub is : unmarked_from mark i count lent ≡ unmarked_from mark from count lent
+module _ {T : Type 0} (infallible : T → Type 0) (clone : T → T → Type 0) {mark value : T} (e : value ≡ mark) (k : IsClonedAs infallible clone mark) where
+  -- the mark may be cloned
+  pub clonable : infallible value
+  clonable = subst infallible (sym e) k.0
 
-module _ {mark from count : ℕ} {lent : List ℕ} {end i : ℕ} (p : Passed mark from count lent end i) where
-  pub passed-within : i < end → i < length lent
-  passed-within h = omega (arith, p.last)
+  -- a fill of the first entries
+  pub filled : (n : ℕ) (lent : List T) {front : List T} → n ≤ length lent
+      → (((y : T) → clone value y → y ≡ value) → front ≡ replicate (length (take n lent)) value) → front ++ drop n lent ≡ marked mark n lent
+  filled n lent {front} h f =
+      let same : (y : T) → clone value y → y ≡ value = subst (λ (v : T). (y : T) → clone v y → y ≡ v) (sym e) k.1 in
+      rw (f same, length-take-le n lent h, e)
 
-  -- the entry at i stands first
-  first : i < end → drop i (take count lent) ≡ get_or lent i 0 ∷ drop (i + 1) (take count lent)
-  first h =
-      rw (add-one, drop-cons (take count lent) i 0 (rw length-take (omega (arith, p.last))), get_or-take count lent i 0 (omega (arith, p.last)))
+module _ {T : Type 0} (eq : T → T → Bool) (mark : T) where
+  found : (entry : T) (rest : List T) (b : Bool) → list_any (λ e. not (eq e mark)) rest ≡ unmarked eq mark rest
+      → eq entry mark ≡ b → list_any (λ e. not (eq e mark)) (entry ∷ rest) ≡ unmarked eq mark (entry ∷ rest)
+  found entry rest true h e = rw (e, h)
+  found entry rest false h e = rw e
 
-  pub passed-more : i < end → get_or lent i 0 ≡ mark → Passed mark from count lent end (i + 1)
-  passed-more h e = record { last = p.last; is = rw (first h, eq-eqb (get_or lent i 0) mark e) at p.is }
-
-  pub passed-found : i < end → (get_or lent i 0 ≡ mark → ⊥) → true ≡ unmarked_from mark from count lent
-  passed-found h e = rw (first h, ne_eqb (get_or lent i 0) mark e) at p.is
-
-  pub passed-done : end ≤ i → false ≡ unmarked_from mark from count lent
-  passed-done h = rw (drop_of_length-le (take count lent) {i = i} (rw length-take (omega (arith, p.last)))) at p.is
+  -- a search for another entry
+  pub searched : (entries : List T) → list_any (λ entry. not (eq entry mark)) entries ≡ unmarked eq mark entries
+  searched [] = refl
+  searched (entry ∷ entries) = found entry entries (eq entry mark) (searched entries) refl

@@ -6,25 +6,25 @@ use Prim.Native.Nat.{ℕ, zero, suc, ◌+◌, ◌-◌, ◌*◌, ◌%◌, ◌≤�
 use native.Mathlib.Numerals.{add-one}
 use native.Mathlib.Omega.{arith}
 use borrow.Author.Tests.{le-ltb}
-use lib.Dec.{ltb, eqb-suc-zero}
+use lib.Dec.{eqb-suc-zero}
 use lib.ListN.{length, drop, set, length-set, length-drop}
 use lib.Seq.{sets, drop-set-lt, drop-drop}
 use Rattle.answers.specs.Lent.{over}
-use Rattle.answers.proofs.Rules.{picked}
 use Rattle.answers.proofs.Stored.{sets_over}
 use Rattle.text.specs.declared.numeral.Numeral.{Numeral}
-use Rattle.text.specs.declared.numeral.Numeral.TheVariants.{Read, Malformed}
+use Rattle.std.specs.Prelude.{Option, None, Some}
 use Rattle.text.specs.Numeral.{worth, hex_from, hex_at}
+use Rattle.text.proofs.Line.{digit_or}
 use Rattle.text.specs.Strings.{bytes_from, bytes_at, spelled_to, string_at}
 
 -- digits that are read stand there, and the line goes on behind them
-hex-place : (k value next : ℕ) (bs : List ℕ) {v after : ℕ} → hex_from k value next bs ≡ Read v after
-    → (after ≡ next + k) × (k ≤ length bs)
-hex-place zero value next bs {v} {after} = λ q. let e : next ≡ after = cc in (omega arith, omega arith)
+hex-place : (k value next : ℕ) (bs : List ℕ) {number : Numeral} → hex_from k value next bs ≡ Some number
+    → (number.next ≡ next + k) × (k ≤ length bs)
+hex-place zero value next bs {number} = λ q. let e : next ≡ number.next = cc in (omega arith, omega arith)
 hex-place (suc k) value next [] = λ q. let z : ◌≡◌ {A = ℕ} 0 1 = cc in absurd (omega arith)
-hex-place (suc k) value next (b ∷ bs) {v} {after} =
-    picked (λ (n : Numeral). n ≡ Read v after → (after ≡ next + suc k) × (suc k ≤ length (b ∷ bs))) (ltb (worth b) 16) _ _
-    (λ _ q. let h = hex-place k _ (next + 1) bs q in (omega (arith, h.0), omega (arith, h.1)))
+hex-place (suc k) value next (b ∷ bs) {number} =
+    digit_or (λ (n : Option Numeral). n ≡ Some number → (number.next ≡ next + suc k) × (suc k ≤ length (b ∷ bs))) (worth b)
+    (λ _ _ q. let h = hex-place k _ (next + 1) bs q in (omega (arith, h.0), omega (arith, h.1)))
     (λ _ q. let z : ◌≡◌ {A = ℕ} 0 1 = cc in absurd (omega arith))
 
 -- an empty string leaves the line, and of one that is not the line does not matter
@@ -59,13 +59,13 @@ module _ {at : ℕ} {l₀ : List ℕ} where
     one_left h = omega arith
 
     -- the line at the start has the same pair
-    pair : hex_at l₀ next 2 ≡ hex_at l next 2
-    pair = rw p.ahead
+    same_pair : hex_at l₀ next 2 ≡ hex_at l next 2
+    same_pair = rw p.ahead
 
-    pub spelled-more : count < length l₀ → {value after : ℕ} → hex_at l next 2 ≡ Read value after
-        → Spelled at l₀ (set l count (value % 256)) after (count + 1)
-    spelled-more h {value} {after} r =
-        let q : hex_at l₀ next 2 ≡ Read value after = pair ∙ r in
+    pub spelled-more : count < length l₀ → {pair : Numeral} → hex_at l next 2 ≡ Some pair
+        → Spelled at l₀ (set l count (pair.value % 256)) pair.next (count + 1)
+    spelled-more h {pair} r =
+        let q : hex_at l₀ next 2 ≡ Some pair = same_pair ∙ r in
         let w = hex-place 2 0 next (drop next l₀) q in
         let e = w.0 in
         record {
@@ -73,7 +73,7 @@ module _ {at : ℕ} {l₀ : List ℕ} where
           place = omega (arith, e, p.place);
           half = omega (arith, w.1, length-drop next l₀, p.place);
           ahead =
-              drop-set-lt after l count (value % 256) (omega (arith, e, p.place))
+              drop-set-lt pair.next l count (pair.value % 256) (omega (arith, e, p.place))
               ∙ rw e (sym (drop-drop 2 next l) ∙ ap (λ (t : List ℕ). drop 2 t) p.ahead ∙ drop-drop 2 next l₀);
           counts = let t = rw (one_left h, q) at p.counts in omega (arith, t);
           stores = rw (add-one count) (rw (one_left h, q, add-one count) at p.stores);
@@ -85,14 +85,14 @@ module _ {at : ℕ} {l₀ : List ℕ} where
         let n : count ≡ length (bytes_at l₀ at) = let t = rw e at p.counts in omega (arith, t) in
         (n, rw e at p.stores ∙ sets_over (bytes_at l₀ at) l₀ (omega (arith, n, p.half)))
 
-    pub spelled-end : count < length l₀ → hex_at l next 2 ≡ Malformed → {r : Numeral} → r ≡ spelled_to count l next
+    pub spelled-end : count < length l₀ → hex_at l next 2 ≡ None → {r : Option Numeral} → r ≡ spelled_to count l next
         → (r ≡ string_at l₀ at) × (l ≡ over (bytes_at l₀ at) l₀)
     spelled-end h q a =
-        let d = done (rw (one_left h, pair ∙ q)) in
+        let d = done (rw (one_left h, same_pair ∙ q)) in
         (a ∙ rw (p.place, d.0, d.1) (spelled-over (bytes_at l₀ at) l₀ (at + 2 * length (bytes_at l₀ at))), d.1)
 
     -- only an empty line runs out
-    pub spelled_out : length l₀ ≤ count → (Malformed ≡ string_at l₀ at) × (l ≡ over (bytes_at l₀ at) l₀)
+    pub spelled_out : length l₀ ≤ count → (None ≡ string_at l₀ at) × (l ≡ over (bytes_at l₀ at) l₀)
     spelled_out h =
         let z : length l₀ - count ≡ 0 = omega arith in
         let d = done (rw z) in

@@ -1,7 +1,9 @@
 pub mod Text
 pub mod Put
+pub mod Page
 pub mod Numeral
 pub mod Marks
+pub mod Part
 pub mod Entries
 pub mod Strings
 pub mod Forms

@@ -1,64 +1,58 @@
 //! Marks in lent memory, so that a change shows.
 ghost use Rattle.std.specs.Prelude.{◌≡◌, min, length};
-ghost use Rattle.answers.specs.Lent.{over};
-ghost use Rattle.text.specs.Marks.{byte_mark, word_mark, marked, unmarked_from};
+ghost use Rattle.text.specs.Marks.{byte_mark, tag_mark, word_mark, marked, unmarked_in, IsClonedAs};
+ghost use Rattle.std.proofs.Common.{rules};
 
-use crate::part::{within, within_words};
+use crate::part::within;
 
-pub const MARK: u8 = 0xa5;
+// A type whose entries are marked, and the mark.
+pub trait Marked: Copy + PartialEq {
+    ghost MARK: { Self };
 
-pub const WORD: u64 = 0xa5a5_a5a5_a5a5_a5a5;
+    const MARK: Self;
 
-// The mark goes into every entry.
-pub fn mark(lent: &mut [u8])
-    ensures { lent.new ≡ marked byte_mark (length lent.old) }
-{
-    let mut i: usize = 0;
-    while i < lent.len() {
-        lent[i] = MARK;
-        i += 1;
-    }
+    // What `fill` asks of a clone.
+    ghost cloned: { IsClonedAs Self.is_infallible Self.is_clone MARK };
 }
 
-// The mark goes into the first words, so many.
-pub fn mark_words(lent: &mut [u64], count: u64)
-    ensures { lent.new
-        ≡ over (marked word_mark (min count (length lent.old))) lent.old }
+impl Marked for u8 {
+    ghost MARK = { byte_mark };
+
+    ghost cloned = { Prim.search rules };
+
+    const MARK: u8 = 0xa5;
+}
+
+impl Marked for u32 {
+    ghost MARK = { tag_mark };
+
+    ghost cloned = { Prim.search rules };
+
+    const MARK: u32 = 0xa5a5_a5a5;
+}
+
+impl Marked for u64 {
+    ghost MARK = { word_mark };
+
+    ghost cloned = { Prim.search rules };
+
+    const MARK: u64 = 0xa5a5_a5a5_a5a5_a5a5;
+}
+
+// The mark goes into the first entries, so many.
+pub fn mark<T: Marked>(lent: &mut [T], count: u64)
+    ensures { lent.new ≡ marked T.MARK (min count (length lent.old)) lent.old }
 {
-    let end = within_words(count as usize, lent);
-    let mut i: usize = 0;
-    while i < end {
-        lent[i] = WORD;
-        i += 1;
-    }
+    let end = within(count as usize, lent);
+    lent[..end].fill(T::MARK);
 }
 
 // Whether one of the first entries, so many, is without the mark, from a place on.
-pub fn changed(lent: &[u8], from: usize, count: u64) -> bool
-    ensures { result ≡ unmarked_from byte_mark from count lent.now }
+pub fn changed<T: Marked>(lent: &[T], from: usize, count: u64) -> bool
+    ensures { result ≡ unmarked_in T.eq T.MARK from count lent.now }
 {
-    let end = within(count as usize, lent);
-    let mut i = from;
-    while i < end {
-        if lent[i] != MARK {
-            return true;
-        }
-        i += 1;
-    }
-    false
-}
-
-// The same of words.
-pub fn words_changed(lent: &[u64], from: usize, count: u64) -> bool
-    ensures { result ≡ unmarked_from word_mark from count lent.now }
-{
-    let end = within_words(count as usize, lent);
-    let mut i = from;
-    while i < end {
-        if lent[i] != WORD {
-            return true;
-        }
-        i += 1;
-    }
-    false
+    lent.iter()
+        .take(count as usize)
+        .skip(from)
+        .any(|&entry| entry != T::MARK)
 }

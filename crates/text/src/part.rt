@@ -1,27 +1,11 @@
 //! The front of a slice.
 ghost use Rattle.std.specs.Prelude.{◌≡◌, min, length};
-ghost use Rattle.io.specs.Counts.{IsPrefixLen};
+ghost use Rattle.text.specs.Part.{IsPrefixLen};
 
-// The count, or the slice's length where that is less, so that `&bytes[..n]` leaves nothing to show.
-pub fn within(count: usize, bytes: &[u8]) -> usize
-    ensures prefix_len { IsPrefixLen result bytes.now }
-    ensures value { result ≡ min count (length bytes.now) }
+// The count, or the slice's length where that is less, so that `&items[..n]` leaves nothing to show.
+pub fn within<T>(count: usize, items: &[T]) -> usize
+    ensures prefix_len { IsPrefixLen result items.now }
+    ensures value { result ≡ min count (length items.now) }
 {
-    if count < bytes.len() {
-        count
-    } else {
-        bytes.len()
-    }
-}
-
-// The same of words.
-pub fn within_words(count: usize, words: &[u64]) -> usize
-    ensures prefix_len { IsPrefixLen result words.now }
-    ensures value { result ≡ min count (length words.now) }
-{
-    if count < words.len() {
-        count
-    } else {
-        words.len()
-    }
+    count.min(items.len())
 }

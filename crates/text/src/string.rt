@@ -6,33 +6,30 @@ ghost use Rattle.text.specs.Strings.{bytes_at, spelled_to, string_at};
 use crate::numeral::{Numeral, hex, literal};
 
 // The byte string of so many bytes, up to a place. One that is empty is spelled `-`.
-fn spelled(count: usize, line: &[u8], next: usize) -> Numeral
+fn spelled(count: usize, line: &[u8], next: usize) -> Option<Numeral>
     ensures { result ≡ spelled_to count line.now next }
 {
     if count == 0 {
         return literal(b'-', line, next);
     }
-    Numeral::Read {
+    Some(Numeral {
         value: count as u64,
         next,
-    }
+    })
 }
 
 // The bytes that pairs of hex digits spell, into the front of the line itself, which has been read that far.
-pub fn byte_string(line: &mut [u8], at: usize) -> Numeral
+pub fn byte_string(line: &mut [u8], at: usize) -> Option<Numeral>
     ensures value { result ≡ string_at line.old at }
     ensures line_after { line.new ≡ over (bytes_at line.old at) line.old }
 {
     let mut next = at;
-    let mut count: usize = 0;
-    while count < line.len() {
-        let pair = hex(line, next, 2);
-        let Numeral::Read { value, next: after } = pair else {
+    for count in 0..line.len() {
+        let Some(pair) = hex(line, next, 2) else {
             return spelled(count, line, next);
         };
-        line[count] = (value % 256) as u8;
-        next = after;
-        count += 1;
+        line[count] = (pair.value % 256) as u8;
+        next = pair.next;
     }
-    Numeral::Malformed
+    None
 }

@@ -8,22 +8,14 @@ use packs::first::MAX_BYTES;
 use std::io;
 use std::io::Write;
 use streams::read_full;
+use text::room::room_of;
 
 // One byte more than the most that is read.
 const INPUT: usize = MAX_BYTES + 1;
 
-// The arrays come from calls: the check would count the elements of one that `main` makes itself.
-fn room_for_input() -> [u8; INPUT] {
-    [0; INPUT]
-}
-
-fn room_for_file() -> [u8; ROOM] {
-    [0; ROOM]
-}
-
 fn main(rt: HostRuntime) -> io::Result<()> {
-    let mut input = room_for_input();
-    let mut out = room_for_file();
+    let mut input: [u8; INPUT] = room_of(0);
+    let mut out: [u8; ROOM] = room_of(0);
     let count = read_full(&mut rt.stdin(), &mut input)?;
     let streamed = npy_of_pack(&input[..count], &mut out);
     match streamed {

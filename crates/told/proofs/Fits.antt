@@ -7,9 +7,9 @@ use Prim.Native.Nat.{ℕ, suc, ◌+◌, ◌*◌, ◌≤◌}
 use native.Mathlib.Nat.{mul-le-mul}
 use native.Mathlib.Omega.{arith}
 use lib.ListN.{length, get_or, length-append}
+use Rattle.std.specs.Prelude.{Ok}
 use Rattle.answers.specs.Listed.{written}
 use Rattle.answers.specs.Table.{Answer}
-use Rattle.answers.specs.declared.Written.TheVariants.{Done}
 use Rattle.answers.proofs.Rules.{picked}
 use Rattle.layout.specs.declared.control.ParseControl.{ParseControl}
 use Rattle.layout.specs.declared.rule.Rule.{Rule}
@@ -85,5 +85,5 @@ printed-fits bytes =
     (λ f. rw length-append (omega (arith, account-fits bytes f)))
 
 -- the length that is answered is within the room
-pub done-within : (bytes : List ℕ) (got : ℕ) {k : ℕ} → written (Done k) ≡ print_answer room (printed bytes) got → k ≤ room
+pub done-within : (bytes : List ℕ) (got : ℕ) {k : ℕ} → written (Ok k) ≡ print_answer room (printed bytes) got → k ≤ room
 done-within bytes got = print-within room (printed bytes) got (printed-fits bytes)

@@ -4,12 +4,12 @@ use mathlib.Core.Path.{◌≡◌, sym, ap, ◌∙◌}
 use mathlib.Core.List.{List}
 use Prim.Native.Nat.{ℕ}
 use borrow.Author.Tests.{ne_eqb}
+use Rattle.std.specs.Prelude.{None}
 use Rattle.answers.specs.Table.{Answer, next}
 use Rattle.answers.proofs.Next.{next-next}
 use Rattle.layout.specs.declared.rule.Rule.{Rule}
 use Rattle.layout.specs.Ruled.{refused_by, unnamed}
 use Rattle.elements.specs.Elements.{head_of}
-use Rattle.deviations.specs.declared.form.DeviationRange.TheVariants.{Unknown}
 use Rattle.rules.specs.Named.{pack_ruled}
 use Rattle.rules.specs.Rules.{pack_rules, room_rules}
 use Rattle.rules.proofs.Refused.{refused-by, pack-unnamed}
@@ -22,7 +22,7 @@ module _ (bytes : List ℕ) (d c p : ℕ) where
   -- a) to k), and behind them the rooms
   pub by-rules : read_answer bytes d c p ≡ next (unnamed (pack_ruled bytes)) behind
   by-rules =
-      next-next (pack_rules Unknown bytes) (room_rules (head_of bytes) d c p) (done (head_of bytes))
+      next-next (pack_rules None bytes) (room_rules (head_of bytes) d c p) (done (head_of bytes))
       ∙ ap (λ (a : Answer). next a behind) (sym (pack-unnamed bytes))
 
   -- the answer of the rule that refuses is the reader's

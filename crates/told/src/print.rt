@@ -2,38 +2,42 @@
 ghost use Rattle.std.specs.Prelude.{◌≡◌, length};
 ghost use Rattle.answers.specs.Listed.{written};
 ghost use Rattle.answers.specs.Lent.{leaves};
-ghost use Rattle.text.specs.Put.{Put};
+ghost use Rattle.text.specs.Page.{Adds};
 ghost use Rattle.lines.specs.Printed.{print_answer};
 ghost use Rattle.told.specs.Printed.{printed, room};
 
 use accounts::account::put_account;
-use answers::{Refusal, Written};
+use answers::Refusal;
 use report::print::is_too_big;
-use text::put::{put_byte, put_text};
+use text::page::Page;
 
 // Any text fits.
 pub const ROOM: usize = 327_680;
 
-fn put_printed(bytes: &[u8], out: &mut [u8]) -> usize
-    ensures { Put (printed bytes.now) 0 out.old result out.new }
+fn put_printed(bytes: &[u8], page: &mut Page<'_>)
+    ensures { Adds (printed bytes.now) page.old page.new }
 {
     if is_too_big(bytes) {
-        return put_text(b"too big for this program\n", 0, out);
+        page.text(b"too big for this program\n");
+    } else {
+        put_account(true, bytes, page);
+        page.byte(b'\n');
     }
-    let told = put_account(true, bytes, 0, out);
-    put_byte(b'\n', told, out)
 }
 
-// What is printed of the bytes, over the front of `out`.
-pub fn print_why(bytes: &[u8], out: &mut [u8]) -> Written
+// What is printed of the bytes, over the front of `out`. The frame is `print_pack`'s too: a function that takes what is put
+// as a closure would be no plainer.
+pub fn print_why(bytes: &[u8], out: &mut [u8]) -> Result<usize, Refusal>
     ensures { (written result ≡ print_answer room (printed bytes.now) (length out.old))
         × (out.new ≡ leaves (written result) (printed bytes.now) out.old) }
 {
     if out.len() < ROOM {
-        return Written::Refused(Refusal::BufferTooSmall {
+        return Err(Refusal::BufferTooSmall {
             needed: ROOM,
             got: out.len(),
         });
     }
-    Written::Done(put_printed(bytes, out))
+    let mut page = Page::new(0, out);
+    put_printed(bytes, &mut page);
+    Ok(page.place())
 }

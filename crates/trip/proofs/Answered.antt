@@ -4,6 +4,7 @@ use mathlib.Core.List.{List, [], ◌∷◌}
 use Prim.Native.Nat.{ℕ, zero, suc, ◌+◌, ◌-◌, ◌*◌}
 use lib.Dec.{eqb, ltb}
 use lib.ListN.{length}
+use Rattle.std.specs.Prelude.{None, Some, Option, Result, Ok, Err}
 use Rattle.answers.specs.Table.{Answer, answer, short, wholes, passes, next, each, room_rule}
 use Rattle.answers.specs.Listed.{InTable}
 use Rattle.answers.proofs.InTable.{in-done, in-1, in-8, in-10, in-pick, in-next, table}
@@ -14,17 +15,15 @@ use Rattle.imapb.specs.Tables.{range_rule, length_rule}
 use Rattle.ranges.specs.Range.{reading_in}
 use Rattle.layout.specs.Triangle.{slots_of}
 use Rattle.layout.specs.declared.control.ParseControl.{ParseControl}
-use Rattle.layout.specs.declared.header.Header.{Header}
-use Rattle.layout.specs.declared.header.Header.TheVariants.{Open, Unreadable, Short}
+use Rattle.layout.specs.declared.header.Head.{Head}
+use Rattle.layout.specs.declared.header.HeaderError.{HeaderError}
+use Rattle.layout.specs.declared.header.HeaderError.TheVariants.{Unreadable, Short}
 use Rattle.layout.specs.declared.rule.Rule.{Rule}
 use Rattle.layout.specs.declared.rule.Rule.TheVariants.{A, B, C, D, E, F, G, H, I, J, K}
 use Rattle.layout.specs.Header.{said_size, control_of, body_at, header_of, rule_a, rule_b, header_refusal, head_rules}
-use Rattle.layout.specs.declared.size.Peek.{Peek}
-use Rattle.layout.specs.declared.size.Peek.TheVariants.{Size, Nothing}
 use Rattle.layout.specs.Size.{fit_rules, size_rules, peeked}
 use Rattle.layout.proofs.Peek.{size-answers, fit-answers}
 use Rattle.sets.specs.declared.item.Item.{Item}
-use Rattle.sets.specs.declared.item.Item.TheVariants.{Read, Faulty}
 use Rattle.sets.specs.Tags.{pack_tag}
 use Rattle.sets.specs.Parts.{part_of}
 use Rattle.sets.specs.Items.{Placed, items_of}
@@ -34,14 +33,13 @@ use Rattle.elements.specs.Elements.{head_of, deviations_at, deviation_count, cod
 use Rattle.elements.specs.Formats.{deviation_format, code_format}
 use Rattle.elements.specs.Numbers.{element_rule}
 use Rattle.deviations.specs.declared.form.DeviationRange.{DeviationRange}
-use Rattle.deviations.specs.declared.form.DeviationRange.TheVariants.{Unknown, Known}
-use Rattle.deviations.specs.Range.{lent_rule, value_rule, format_over, row_part}
+use Rattle.deviations.specs.Range.{known, lent_rule, value_rule, format_over, row_part}
 use Rattle.codes.specs.Store.{store_rules}
 use Rattle.reader.specs.Rules.{done, read_answer_in}
 use Rattle.rules.specs.Named.{rule_of}
 use Rattle.rules.specs.Rules.{in_turn, codes_rule, over_rule, rule_h, rule_i, rule_j, rule_k, element_rules, pack_rules, rooms_rule, room_rules}
 use Rattle.rules.proofs.Named.{element-answers}
-use Rattle.elements.specs.declared.head.Head.{Head}
+use Rattle.layout.specs.declared.header.Head.{Head}
 use Rattle.npy_header.specs.Header.{size_in}
 use Rattle.npy_header.specs.Rules.{header_rule}
 use Rattle.npy.specs.Rules as npy
@@ -76,10 +74,10 @@ ranges_in (c ∷ cs) = in-next (range_rule c) (range_rules cs) (range-in c) (ran
 sizes-in : (n R : ℕ) (k : ParseControl) → InTable (size_rules n R k)
 sizes-in n R k = rw (size-answers n R k) (search table depth 20)
 
-header-in : (h : Header) → InTable (header_refusal h)
-header-in Unreadable = in-1 0 0
-header-in Short = in-1 1 0
-header-in (Open n control body) = in-done []
+header-in : (h : Result Head HeaderError) → InTable (header_refusal h)
+header-in (Err Unreadable) = in-1 0 0
+header-in (Err Short) = in-1 1 0
+header-in (Ok head) = in-done []
 
 heads-in : (bytes : List ℕ) → InTable (head_rules bytes)
 heads-in bytes = header-in (header_of bytes)
@@ -103,18 +101,18 @@ values-in row (OutOfRange x) = in-8 row
 lengths-in : (L : ℕ) → InTable (length_rule L)
 lengths-in L = search table depth 10
 
-lent-in : (range : DeviationRange) → InTable (lent_rule range)
-lent-in Unknown = in-done []
-lent-in (Known min max) = search table depth 10
+lent-in : (range : Option DeviationRange) → InTable (lent_rule range)
+lent-in None = in-done []
+lent-in (Some range) = search table depth 10
 
-over-range-in : (range : DeviationRange) (k : ParseControl) (i : ℕ) (raw : List ℕ) → InTable (format_over range k i raw)
-over-range-in Unknown k i raw = (formats-in k).0
-over-range-in (Known min max) k i raw =
-    let v = reading_in min max k.slen (word_of raw) in
+over-range-in : (range : Option DeviationRange) (k : ParseControl) (i : ℕ) (raw : List ℕ) → InTable (format_over range k i raw)
+over-range-in None k i raw = (formats-in k).0
+over-range-in (Some range) k i raw =
+    let v = reading_in range.min range.max k.slen (word_of raw) in
     in-pick k.sf (next (length_rule k.slen) (value_rule i v)) (deviation_format k)
     (in-next (length_rule k.slen) (value_rule i v) (lengths-in k.slen) (values-in i v)) (formats-in k).0
 
-elements-in : (range : DeviationRange) (bytes : List ℕ) → InTable (element_rules range bytes (head_of bytes))
+elements-in : (range : Option DeviationRange) (bytes : List ℕ) → InTable (element_rules range bytes (head_of bytes))
 elements-in range bytes =
     let h = head_of bytes in
     let k = h.control in
@@ -126,10 +124,10 @@ elements-in range bytes =
     (in-next (rule_j bytes h) (rule_k bytes h) (turns-in bytes (codes_at h) k.clen (λ _. code_format k) (λ _. (formats-in k).1) (present_count bytes h)) (over-in (end_at bytes h) (length bytes)))))
 
 -- each rule by its name
-header-rules-in : (h : Header) → InTable (rule_a h) × InTable (rule_b h)
-header-rules-in Unreadable = (in-1 0 0, in-done [])
-header-rules-in Short = (in-done [], in-1 1 0)
-header-rules-in (Open n control body) = (in-done [], in-done [])
+header-rules-in : (h : Result Head HeaderError) → InTable (rule_a h) × InTable (rule_b h)
+header-rules-in (Err Unreadable) = (in-1 0 0, in-done [])
+header-rules-in (Err Short) = (in-done [], in-1 1 0)
+header-rules-in (Ok head) = (in-done [], in-done [])
 
 rules-in : (bytes : List ℕ) (x : Rule) → InTable (rule_of bytes x)
 rules-in bytes A = (header-rules-in (header_of bytes)).0
@@ -162,29 +160,29 @@ fits_in bytes =
     let k = control_of bytes in
     rw (fit-answers bytes) (in-next (head_rules bytes) (size_rules n R k) (heads-in bytes) (sizes-in n R k))
 
-packs-in : (range : DeviationRange) (bytes : List ℕ) → InTable (pack_rules range bytes)
+packs-in : (range : Option DeviationRange) (bytes : List ℕ) → InTable (pack_rules range bytes)
 packs-in range bytes =
     let elements = element_rules range bytes (head_of bytes) in
     in-next (lent_rule range) (next (fit_rules bytes) elements) (lent-in range) (in-next (fit_rules bytes) elements (fits_in bytes) (elements-in range bytes))
 
-stores-in : (range : DeviationRange) (bytes : List ℕ) (d c s : ℕ) → InTable (store_rules range bytes d c s)
+stores-in : (range : Option DeviationRange) (bytes : List ℕ) (d c s : ℕ) → InTable (store_rules range bytes d c s)
 stores-in range bytes d c s =
     let h = head_of bytes in in-next (pack_rules range bytes) (room_rules h d c s) (packs-in range bytes) (rooms_in h d c s)
 
-reads_in : (range : DeviationRange) (bytes : List ℕ) (d c s : ℕ) → InTable (read_answer_in range bytes d c s)
+reads_in : (range : Option DeviationRange) (bytes : List ℕ) (d c s : ℕ) → InTable (read_answer_in range bytes d c s)
 reads_in range bytes d c s =
     in-next (store_rules range bytes d c s) (done (head_of bytes)) (stores-in range bytes d c s) (search table depth 10)
 
 -- the items of a set
-peeks-in : (r : Peek) → InTable (peek_rule r)
-peeks-in (Size n) = in-done []
-peeks-in Nothing = in-1 0 0
+peeks-in : (r : Option ℕ) → InTable (peek_rule r)
+peeks-in (Some n) = in-done []
+peeks-in None = in-1 0 0
 
-items-in : (set : List ℕ) (tags seen at : ℕ) (i : Item) → InTable (item_rules set tags seen at i)
-items-in set tags seen at Faulty = in-10 at
-items-in set tags seen at (Read tag start end) =
-    in-next (pack_rule set tag start end) (tag_rule tags seen tag)
-    (in-pick (eqb tag pack_tag) (peek_rule (peeked (part_of start end set))) passes (peeks-in (peeked (part_of start end set))) (in-done []))
+items-in : (set : List ℕ) (tags seen at : ℕ) (i : Option Item) → InTable (item_rules set tags seen at i)
+items-in set tags seen at None = in-10 at
+items-in set tags seen at (Some i) =
+    in-next (pack_rule set i.tag i.start i.end) (tag_rule tags seen i.tag)
+    (in-pick (eqb i.tag pack_tag) (peek_rule (peeked (part_of i.start i.end set))) passes (peeks-in (peeked (part_of i.start i.end set))) (in-done []))
     (search table depth 10)
 
 sets-in : (set : List ℕ) (tags seen : ℕ) (ps : List Placed) → InTable (set_rules set tags seen ps)
@@ -225,7 +223,7 @@ pub answered : Answered
 answered =
     record {
       reads_in = reads_in;
-      reads = reads_in Unknown;
+      reads = reads_in None;
       heads = heads-in;
       fits = sizes-in;
       opens = fits_in;
@@ -259,7 +257,7 @@ answered =
       maps = λ L v room. search table depth 10;
       checks = range-in;
       lengths = lengths-in;
-      ranges = λ min max. lent-in (Known min max);
+      ranges = λ min max. lent-in (known min max);
       codes = λ L bytes. search table depth 10;
       maps-special = λ L s room. search table depth 10;
       looks-up = λ p ds cs i j. search table depth 10;

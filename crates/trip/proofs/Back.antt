@@ -8,6 +8,7 @@ use native.Mathlib.Omega.{arith}
 use lib.Dec.{eqb}
 use lib.ListN.{length}
 use borrow.Author.Tests.{le-leb, le-ltb, ne_eqb}
+use Rattle.std.specs.Prelude.{None}
 use Rattle.answers.specs.Table.{pick, passes}
 use Rattle.answers.specs.Lent.{tab}
 use Rattle.answers.proofs.Lent.{tab-same}
@@ -17,7 +18,6 @@ use Rattle.layout.specs.Size.{max_rows, size_rules, fit_rules}
 use Rattle.layout.specs.Triangle.{slots_of}
 use Rattle.layout.proofs.Peek.{fit-answers}
 use Rattle.elements.specs.Elements.{present_before, head_of, deviation_count}
-use Rattle.deviations.specs.declared.form.DeviationRange.TheVariants.{Unknown}
 use Rattle.rules.specs.Rules.{element_rules, room_rules}
 use Rattle.rules.proofs.InTurn.{all_held}
 use Rattle.slots.specs.Slots.{sent}
@@ -63,7 +63,7 @@ module _ (ds cs : List ℕ) (L : ℕ) (sparse : Bool) (rows : length ds ≤ max_
       (λ e. omega (arith, rw (e, ne_eqb L 0 (omega arith)) at whole)) (λ e. omega (arith, rw e at whole)))
 
   -- h) to k)
-  elements-pass : element_rules Unknown bytes (head_of bytes) ≡ passes
+  elements-pass : element_rules None bytes (head_of bytes) ≡ passes
   elements-pass =
       rw (
         head.control,

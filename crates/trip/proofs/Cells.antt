@@ -6,6 +6,7 @@ use Prim.Native.Nat.{ℕ, min, max, ◌-◌, ◌≤◌, ◌<◌}
 use native.Mathlib.Omega.{arith}
 use lib.ListN.{length}
 use borrow.Author.Tests.{eq-eqb, ne_eqb}
+use Rattle.std.specs.Prelude.{Option, None}
 use Rattle.answers.specs.Lent.{over, tab}
 use Rattle.answers.specs.Table.{Answer}
 use Rattle.answers.proofs.Next.{next-zero}
@@ -21,7 +22,6 @@ use Rattle.elements.specs.Listed.{pack_of}
 use Rattle.reader.specs.Listed.{pack_answer}
 use Rattle.reader.specs.Rules.{read_answer_in, read_answer}
 use Rattle.deviations.specs.declared.form.DeviationRange.{DeviationRange}
-use Rattle.deviations.specs.declared.form.DeviationRange.TheVariants.{Unknown}
 use Rattle.reader.proofs.Peeked.{read_done, read_fits}
 use Rattle.reader.proofs.OneAnswer.{pack_one}
 use Rattle.matrix.specs.Lookup.{number, entry_answer}
@@ -74,7 +74,7 @@ module _ (bytes ds₀ cs₀ : List ℕ) (rows : said_size bytes ≤ max_rows) wh
 rows-read : (bytes : List ℕ) (d c s : ℕ) → (read_answer bytes d c s).number ≡ 0 → said_size bytes ≤ max_rows
 rows-read bytes d c s e =
     let R = length bytes - body_at bytes in
-    let size = (next-zero (head_rules bytes) (size_rules (said_size bytes) R (control_of bytes)) (rw (fit-answers bytes) at (read_fits Unknown bytes d c s e))).1 in
+    let size = (next-zero (head_rules bytes) (size_rules (said_size bytes) R (control_of bytes)) (rw (fit-answers bytes) at (read_fits None bytes d c s e))).1 in
     (fits-tells (said_size bytes) R (control_of bytes) size).rows
 
 -- every cell of a pack that was read
@@ -82,6 +82,6 @@ pub cells-read : (bytes ds₀ cs₀ ss₀ : List ℕ) → (read_answer bytes (le
 cells-read bytes ds₀ cs₀ ss₀ e = cells bytes ds₀ cs₀ (rows-read bytes (length ds₀) (length cs₀) (length ss₀) e)
 
 -- the pack that the reader gives, over a range or none, is the one looked up in
-pub pack-read : (range : DeviationRange) (bytes : List ℕ) (d c s : ℕ) (pack : SdccFlp) → pack_answer pack ≡ read_answer_in range bytes d c s → pack ≡ pack_of (head_of bytes)
+pub pack-read : (range : Option DeviationRange) (bytes : List ℕ) (d c s : ℕ) (pack : SdccFlp) → pack_answer pack ≡ read_answer_in range bytes d c s → pack ≡ pack_of (head_of bytes)
 pack-read range bytes d c s pack e =
     pack_one pack (pack_of (head_of bytes)) (e ∙ read_done range bytes d c s (ap (λ (a : Answer). a.number) (sym e)))

@@ -4,7 +4,7 @@ use Rattle.trip.specs.Answered.{Answered}
 use Rattle.trip.proofs.Answered.{answered}
 use Rattle.trip.proofs.Determined.{Determined, determined}
 
-pub record Demand1 : Type 0 where
+pub record Demand1 : Type 2 where
   pub table : Answered
   pub single : Determined
 

@@ -3,20 +3,30 @@
 -- Assumes nothing.
 use mathlib.Core.List.{List}
 use Prim.Native.Nat.{ℕ}
+use mir.Syntax.{Dict, w64}
+use mir.Val.{Fits}
+use denote.RattleType.{RattleType}
+use denote.Param.Laws.{Laws, IsCopy}
+use Rattle.std.specs.declared.clone.Clone as Clone
+use Rattle.std.specs.declared.cmp.PartialEq as PartialEq
+use Rattle.text.specs.declared.marks.Marked as Marked
 use Rattle.answers.specs.OneAnswer.{OneResult, OneAnswer, OnePart}
+use Rattle.text.specs.Page.{filled}
 use Rattle.trip.specs.Tripped.{Lent, lent_of}
 use Rattle.answers.proofs.OneAnswer.{row-of-one}
 use Rattle.answers.proofs.row.row_of.Reads as row_of
-use Rattle.text.proofs.OneAnswer.{within-one, within-words-one, put-byte-one, put-text-one, put-decimal-one, put-named-one, put-hex-one, put-bits-one, digit-at-one, decimal-one, hex-one, literal-one, at-end-one, decimal-up-to-one, entry-after-space-one, entries-one, list-one, byte-string-one, mark-one, mark-words-one, changed-one, words-changed-one}
+use Rattle.text.proofs.OneAnswer.{within-one, page-new-one, page-place-one, page-byte-one, page-text-one, page-decimal-one, page-named-one, page-hex-one, page-bits-one, digit-at-one, decimal-digit-at-one, decimal-one, hex-one, literal-one, at-end-one, decimal-up-to-one, entry-after-space-one, entries-one, list-one, byte-string-one, mark-one, changed-one, letter-in-one, room-of-one}
 use Rattle.text.proofs.part.within.Reads as within
-use Rattle.text.proofs.part.within_words.Reads as within-words
-use Rattle.text.proofs.put.put_byte.Reads as put_byte
-use Rattle.text.proofs.put.put_text.Reads as put-text
-use Rattle.text.proofs.put.put_decimal.Reads as put-decimal
-use Rattle.text.proofs.put.put_named.Reads as put-named
-use Rattle.text.proofs.put.put_hex.Reads as put-hex
-use Rattle.text.proofs.put.put_bits.Reads as put-bits
+use Rattle.text.proofs.page.Page.new.Reads as page-new
+use Rattle.text.proofs.page.Page.place.Reads as page-place
+use Rattle.text.proofs.page.Page.byte.Reads as page-byte
+use Rattle.text.proofs.page.Page.text.Reads as page-text
+use Rattle.text.proofs.page.Page.decimal.Reads as page-decimal
+use Rattle.text.proofs.page.Page.named.Reads as page-named
+use Rattle.text.proofs.page.Page.hex.Reads as page-hex
+use Rattle.text.proofs.page.Page.bits.Reads as page-bits
 use Rattle.text.proofs.numeral.digit_at.Reads as digit_at
+use Rattle.text.proofs.numeral.decimal_digit_at.Reads as decimal-digit-at
 use Rattle.text.proofs.numeral.decimal.Reads as decimal
 use Rattle.text.proofs.numeral.hex.Reads as hex
 use Rattle.text.proofs.numeral.literal.Reads as literal
@@ -27,10 +37,10 @@ use Rattle.text.proofs.list.entries.Reads as entries
 use Rattle.text.proofs.list.list.Reads as list
 use Rattle.text.proofs.string.byte_string.Reads as byte-string
 use Rattle.text.proofs.marks.mark.Reads as mark
-use Rattle.text.proofs.marks.mark_words.Reads as mark-words
 use Rattle.text.proofs.marks.changed.Reads as changed
-use Rattle.text.proofs.marks.words_changed.Reads as words-changed
-use Rattle.numbers.proofs.OneAnswer.{read-be-one, read-le-one, write-le-one, ber-oid-len-one, read-ber-oid-one, read-ber-oid-strict-one, read-ber-one, read-ber-strict-one, write-be-one, write-ber-oid-one, nearest-binary64-one, binary64-to-binary32-one, binary32-to-binary64-one, whole-part-one}
+use Rattle.text.proofs.room.room_of.Reads as room-of
+use Rattle.text.proofs.table.letter_in.Reads as letter-in
+use Rattle.numbers.proofs.OneAnswer.{read-be-one, read-le-one, write-le-one, ber-oid-len-one, read-ber-oid-one, read-ber-oid-strict-one, read-ber-one, read-ber-strict-one, write-be-one, write-ber-oid-one, nearest-binary64-one, binary64-to-binary32-one, binary32-to-binary64-one, bits-of-one, whole-part-one}
 use Rattle.numbers.proofs.words.read_be.Reads as read-be
 use Rattle.numbers.proofs.words.read_le.Reads as read-le
 use Rattle.numbers.proofs.words.write_le.Reads as write-le
@@ -44,8 +54,10 @@ use Rattle.numbers.proofs.ber_oid.write_ber_oid.Reads as write-ber-oid
 use Rattle.numbers.proofs.conversions.nearest_binary64.Reads as nearest-binary64
 use Rattle.numbers.proofs.conversions.binary64_to_binary32.Reads as binary64-to-binary32
 use Rattle.numbers.proofs.conversions.binary32_to_binary64.Reads as binary32-to-binary64
+use Rattle.numbers.proofs.conversions.bits_of.Reads as bits-of
 use Rattle.numbers.proofs.conversions.whole_part.Reads as whole_part
-use Rattle.imapb.proofs.OneAnswer.{decode-imapb-one, unless-special-one, check-length-one, check-code-one, check-range-one, imapb-code-one, imapb-mapping-one, encode-imapb-one, encode-imapb-special-one}
+use Rattle.imapb.proofs.OneAnswer.{code-length-one, decode-imapb-one, unless-special-one, check-length-one, check-code-one, check-range-one, imapb-code-one, imapb-mapping-one, encode-imapb-one, encode-imapb-special-one}
+use Rattle.imapb.proofs.code_length.CodeLength.new.Reads as code-length
 use Rattle.imapb.proofs.decode.decode_imapb.Reads as decode-imapb
 use Rattle.imapb.proofs.decode.unless_special.Reads as unless-special
 use Rattle.imapb.proofs.decode.check_length.Reads as check-length
@@ -60,7 +72,7 @@ use Rattle.ranges.proofs.range.check_range.Reads as range-check
 use Rattle.ranges.proofs.mapping.range_mapping.Reads as range-mapping
 use Rattle.ranges.proofs.decode.decode_worked_out.Reads as decode-worked-out
 use Rattle.ranges.proofs.decode.decode_imapb_in.Reads as decode-imapb-in
-use Rattle.layout.proofs.OneAnswer.{parse-mode1-one, parse-mode2-one, read-header-one, check-matrix-size-fits-one, peek-matrix-size-one, corr-slots-one, triangle-slot-one, bounded-slots-one, by_one}
+use Rattle.layout.proofs.OneAnswer.{parse-mode1-one, parse-mode2-one, read-header-one, check-matrix-size-fits-one, peek-matrix-size-one, corr-slots-one, triangle-slot-one, bounded-slots-one, refusal-from-broken-one, by_one}
 use Rattle.layout.proofs.control.parse_mode1.Reads as parse-mode1
 use Rattle.layout.proofs.control.parse_mode2.Reads as parse-mode2
 use Rattle.layout.proofs.header.read_header.Reads as read-header
@@ -69,6 +81,7 @@ use Rattle.layout.proofs.size.peek_matrix_size.Reads as peek-matrix-size
 use Rattle.layout.proofs.triangle.corr_slots.Reads as corr-slots
 use Rattle.layout.proofs.triangle.triangle_slot.Reads as triangle-slot
 use Rattle.layout.proofs.pack.bounded_slots.Reads as bounded-slots
+use Rattle.layout.proofs.rule.RefusalFromBroken.from.Reads as refusal-from-broken
 use Rattle.layout.proofs.rule.by.Reads as by
 use Rattle.sets.proofs.OneAnswer.{is-pushed-one, read-item-one, next-pack-one, pack-part-one, tags-part-one, read-set-one, pack-at-one, pack-of-one as set-pack-one, tags-of-one}
 use Rattle.sets.proofs.tag.is_pushed.Reads as is-pushed
@@ -187,9 +200,7 @@ use Rattle.replies.proofs.pack.of_usable.Reads as of-usable
 use Rattle.replies.proofs.set.of_set.Reads as of-set
 use Rattle.replies.proofs.set.of_place.Reads as of-place
 use Rattle.replies.proofs.put.put_reply.Reads as put-reply
-use Rattle.shown.proofs.OneAnswer.{within-tags-one, tags-changed-one, put-bytes-one, put-deviations-one, put-slots-one, put-touched-one, put-written-one, put-pack-one}
-use Rattle.shown.proofs.tags.within_tags.Reads as within-tags
-use Rattle.shown.proofs.tags.tags_changed.Reads as tags-changed
+use Rattle.shown.proofs.OneAnswer.{put-bytes-one, put-deviations-one, put-slots-one, put-touched-one, put-written-one, put-pack-one}
 use Rattle.shown.proofs.bytes.put_bytes.Reads as put-bytes
 use Rattle.shown.proofs.lines.put_deviations.Reads as put-deviations
 use Rattle.shown.proofs.lines.put_slots.Reads as put-slots
@@ -202,19 +213,21 @@ use Rattle.requests.proofs.states.states_of.Reads as states-of
 use Rattle.trip.proofs.OneAnswer.{round-trip-one}
 use Rattle.trip.proofs.round_trip.round_trip.Reads as round_trip
 
-pub record Determined : Type 0 where
+pub record Determined : Type 2 where
   -- the table
   pub row-of-determined : OneResult row_of.Learnt
   -- text
-  pub within-determined : OneResult within.Learnt
-  pub within-words-determined : OneResult within-words.Learnt
-  pub put-byte-determined : OneAnswer put_byte.Learnt (λ κs s. s.1.1.0.now)
-  pub put-text-determined : OneAnswer put-text.Learnt (λ κs s. s.1.1.0.now)
-  pub put-decimal-determined : OneAnswer put-decimal.Learnt (λ κs s. s.1.1.0.now)
-  pub put-named-determined : OneAnswer put-named.Learnt (λ κs s. s.1.1.1.0.now)
-  pub put-hex-determined : OneAnswer put-hex.Learnt (λ κs s. s.1.1.1.0.now)
-  pub put-bits-determined : OneAnswer put-bits.Learnt (λ κs s. s.1.1.0.now)
+  pub within-determined : (T : RattleType) (l : Laws T) → OneResult (within.Learnt T l)
+  pub page-new-determined : OnePart page-new.Learnt (λ κs r. filled r)
+  pub page-place-determined : OneResult page-place.Learnt
+  pub page-byte-determined : OneAnswer page-byte.Learnt (λ κs s. filled s.0.now)
+  pub page-text-determined : OneAnswer page-text.Learnt (λ κs s. filled s.0.now)
+  pub page-decimal-determined : OneAnswer page-decimal.Learnt (λ κs s. filled s.0.now)
+  pub page-named-determined : OneAnswer page-named.Learnt (λ κs s. filled s.0.now)
+  pub page-hex-determined : OneAnswer page-hex.Learnt (λ κs s. filled s.0.now)
+  pub page-bits-determined : OneAnswer page-bits.Learnt (λ κs s. filled s.0.now)
   pub digit-at-determined : OneResult digit_at.Learnt
+  pub decimal-digit-at-determined : OneResult decimal-digit-at.Learnt
   pub decimal-determined : OneResult decimal.Learnt
   pub hex-determined : OneResult hex.Learnt
   pub literal-determined : OneResult literal.Learnt
@@ -224,10 +237,12 @@ pub record Determined : Type 0 where
   pub entries-determined : OneAnswer entries.Learnt (λ κs s. s.1.1.1.0.now)
   pub list-determined : OneAnswer list.Learnt (λ κs s. s.1.1.1.0.now)
   pub byte-string-determined : OneAnswer byte-string.Learnt (λ κs s. s.0.now)
-  pub mark-determined : OneAnswer mark.Learnt (λ κs s. s.0.now)
-  pub mark-words-determined : OneAnswer mark-words.Learnt (λ κs s. s.0.now)
-  pub changed-determined : OneResult changed.Learnt
-  pub words-changed-determined : OneResult words-changed.Learnt
+  pub mark-determined : (T : RattleType) (l : Laws T) (copy : IsCopy T) (m : Marked.Ghosts T.Denot) (md : Dict) (k : Clone.Ghosts T.Denot) (kd : Dict) (e : PartialEq.Ghosts T.Denot) (ed : Dict)
+      → OneAnswer (mark.Learnt T l copy m md k kd e ed) (λ κs s. s.0.now)
+  pub changed-determined : (T : RattleType) (l : Laws T) (copy : IsCopy T) (m : Marked.Ghosts T.Denot) (md : Dict) (k : Clone.Ghosts T.Denot) (kd : Dict) (e : PartialEq.Ghosts T.Denot) (ed : Dict)
+      → OneResult (changed.Learnt T l copy m md k kd e ed)
+  pub letter-in-determined : OneResult letter-in.Learnt
+  pub room-of-determined : (T : RattleType) (N : ℕ) (l : Laws T) (fits : Fits w64 N) (copy : IsCopy T) (k : Clone.Ghosts T.Denot) (kd : Dict) → OneResult (room-of.Learnt T N l fits copy k kd)
   -- numbers
   pub read-be-determined : OneResult read-be.Learnt
   pub read-le-determined : OneResult read-le.Learnt
@@ -242,8 +257,10 @@ pub record Determined : Type 0 where
   pub nearest-binary64-determined : OneResult nearest-binary64.Learnt
   pub binary64-to-binary32-determined : OneResult binary64-to-binary32.Learnt
   pub binary32-to-binary64-determined : OneResult binary32-to-binary64.Learnt
+  pub bits-of-determined : OneResult bits-of.Learnt
   pub whole-part-determined : OneResult whole_part.Learnt
   -- mapped values and special codes
+  pub code-length-determined : OneResult code-length.Learnt
   pub decode-imapb-determined : OneResult decode-imapb.Learnt
   pub unless-special-determined : OneResult unless-special.Learnt
   pub check-length-determined : OneResult check-length.Learnt
@@ -267,6 +284,7 @@ pub record Determined : Type 0 where
   pub corr-slots-determined : OneResult corr-slots.Learnt
   pub triangle-slot-determined : OneResult triangle-slot.Learnt
   pub bounded-slots-determined : OneResult bounded-slots.Learnt
+  pub refusal-from-broken-determined : OneResult refusal-from-broken.Learnt
   pub by-determined : OneResult by.Learnt
   -- the packs of a set
   pub is-pushed-determined : OneResult is-pushed.Learnt
@@ -327,30 +345,30 @@ pub record Determined : Type 0 where
   pub correlation-determined : OneResult correlation.Learnt
   pub usable-determined : OneResult usable.Learnt
   -- what the programs print
-  pub put-entries-determined : OneAnswer put_entries.Learnt (λ κs s. s.1.1.1.1.0.now)
-  pub put-values-determined : OneAnswer put-values.Learnt (λ κs s. s.1.1.1.0.now)
-  pub put-refused-determined : OneAnswer Put-refused.Learnt (λ κs s. s.1.1.0.now)
-  pub put-refusal-determined : OneAnswer put-refusal.Learnt (λ κs s. s.1.1.0.now)
-  pub put-counts-determined : OneAnswer put-counts.Learnt (λ κs s. s.1.1.1.1.0.now)
-  pub put-line-determined : OneAnswer put-line.Learnt (λ κs s. s.1.1.1.1.1.0.now)
-  pub put-rows-determined : OneAnswer put-rows.Learnt (λ κs s. s.1.1.0.now)
-  pub put-answer-determined : OneAnswer {L = List ℕ × List ℕ × List ℕ × List ℕ} put-answer.Learnt
-      (λ κs s. (s.1.0.now, s.1.1.0.now, s.1.1.1.0.now, s.1.1.1.1.1.0.now))
+  pub put-entries-determined : OneAnswer put_entries.Learnt (λ κs s. filled s.1.1.1.0.now)
+  pub put-values-determined : OneAnswer put-values.Learnt (λ κs s. filled s.1.1.0.now)
+  pub put-refused-determined : OneAnswer Put-refused.Learnt (λ κs s. filled s.1.0.now)
+  pub put-refusal-determined : OneAnswer put-refusal.Learnt (λ κs s. filled s.1.0.now)
+  pub put-counts-determined : OneAnswer put-counts.Learnt (λ κs s. filled s.1.1.1.0.now)
+  pub put-line-determined : OneAnswer put-line.Learnt (λ κs s. filled s.1.1.1.1.0.now)
+  pub put-rows-determined : OneAnswer put-rows.Learnt (λ κs s. filled s.1.0.now)
+  pub put-answer-determined : OneAnswer {L = List ℕ × List ℕ × List ℕ × (ℕ × List ℕ)} put-answer.Learnt
+      (λ κs s. (s.1.0.now, s.1.1.0.now, s.1.1.1.0.now, filled s.1.1.1.1.0.now))
   pub is-too-big-determined : OneResult is-too-big.Learnt
   pub print-pack-determined : OneAnswer print-pack.Learnt (λ κs s. s.1.0.now)
   pub set-too-big-determined : OneResult set-too-big.Learnt
-  pub put-set-determined : OneAnswer put-set.Learnt (λ κs s. s.1.1.0.now)
-  pub put-first-determined : OneAnswer {L = List ℕ × List ℕ} put_first.Learnt (λ κs s. (s.1.0.now, s.1.1.1.0.now))
-  pub put-tags-determined : OneAnswer put-tags.Learnt (λ κs s. s.1.1.0.now)
-  pub put-pack-of-determined : OneAnswer {L = List ℕ × List ℕ × List ℕ × List ℕ} put-pack-of.Learnt
-      (λ κs s. (s.1.1.1.0.now, s.1.1.1.1.0.now, s.1.1.1.1.1.0.now, s.1.1.1.1.1.1.1.0.now))
+  pub put-set-determined : OneAnswer put-set.Learnt (λ κs s. filled s.1.0.now)
+  pub put-first-determined : OneAnswer {L = List ℕ × (ℕ × List ℕ)} put_first.Learnt (λ κs s. (s.1.0.now, filled s.1.1.0.now))
+  pub put-tags-determined : OneAnswer put-tags.Learnt (λ κs s. filled s.1.0.now)
+  pub put-pack-of-determined : OneAnswer {L = List ℕ × List ℕ × List ℕ × (ℕ × List ℕ)} put-pack-of.Learnt
+      (λ κs s. (s.1.1.1.0.now, s.1.1.1.1.0.now, s.1.1.1.1.1.0.now, filled s.1.1.1.1.1.1.0.now))
   pub npy-of-pack-determined : OneAnswer npy-of-pack.Learnt (λ κs s. s.1.0.now)
   pub pack-of-npy-determined : OneAnswer pack-of-npy.Learnt (λ κs s. s.1.1.0.now)
-  pub put-reason-determined : OneAnswer put-reason.Learnt (λ κs s. s.1.1.1.1.1.1.0.now)
-  pub put-gap-determined : OneAnswer put-gap.Learnt (λ κs s. s.1.1.0.now)
-  pub put-elements-determined : OneAnswer put-elements.Learnt (λ κs s. s.1.1.1.0.now)
-  pub put-slot-determined : OneAnswer put-slot.Learnt (λ κs s. s.1.1.1.1.1.1.0.now)
-  pub put-account-determined : OneAnswer put-account.Learnt (λ κs s. s.1.1.1.0.now)
+  pub put-reason-determined : OneAnswer put-reason.Learnt (λ κs s. filled s.1.1.1.1.1.0.now)
+  pub put-gap-determined : OneAnswer put-gap.Learnt (λ κs s. filled s.1.0.now)
+  pub put-elements-determined : OneAnswer put-elements.Learnt (λ κs s. filled s.1.1.0.now)
+  pub put-slot-determined : OneAnswer put-slot.Learnt (λ κs s. filled s.1.1.1.1.1.0.now)
+  pub put-account-determined : OneAnswer put-account.Learnt (λ κs s. filled s.1.1.0.now)
   pub print-why-determined : OneAnswer print-why.Learnt (λ κs s. s.1.0.now)
   -- what replay is asked, and what it answers
   pub read-request-determined : OneAnswer {L = List ℕ × List ℕ} read-request.Learnt (λ κs s. (s.0.now, s.1.0.now))
@@ -376,15 +394,13 @@ pub record Determined : Type 0 where
   pub of-usable-determined : OneResult of-usable.Learnt
   pub of-set-determined : OneResult of-set.Learnt
   pub of-place-determined : OneResult of-place.Learnt
-  pub put-reply-determined : OneAnswer put-reply.Learnt (λ κs s. s.1.1.0.now)
-  pub within-tags-determined : OneResult within-tags.Learnt
-  pub tags-changed-determined : OneResult tags-changed.Learnt
-  pub put-bytes-determined : OneAnswer put-bytes.Learnt (λ κs s. s.1.1.1.0.now)
-  pub put-deviations-determined : OneAnswer put-deviations.Learnt (λ κs s. s.1.1.1.0.now)
-  pub put-slots-determined : OneAnswer put-slots.Learnt (λ κs s. s.1.1.1.1.1.0.now)
-  pub put-touched-determined : OneAnswer put-touched.Learnt (λ κs s. s.1.1.0.now)
-  pub put-written-determined : OneAnswer Put-written.Learnt (λ κs s. s.1.1.1.1.0.now)
-  pub put-pack-determined : OneAnswer put-pack.Learnt (λ κs s. s.1.1.1.1.1.1.0.now)
+  pub put-reply-determined : OneAnswer put-reply.Learnt (λ κs s. filled s.1.0.now)
+  pub put-bytes-determined : OneAnswer put-bytes.Learnt (λ κs s. filled s.1.1.0.now)
+  pub put-deviations-determined : OneAnswer put-deviations.Learnt (λ κs s. filled s.1.1.0.now)
+  pub put-slots-determined : OneAnswer put-slots.Learnt (λ κs s. filled s.1.1.1.1.0.now)
+  pub put-touched-determined : OneAnswer put-touched.Learnt (λ κs s. filled s.1.0.now)
+  pub put-written-determined : OneAnswer Put-written.Learnt (λ κs s. filled s.1.1.1.0.now)
+  pub put-pack-determined : OneAnswer put-pack.Learnt (λ κs s. filled s.1.1.1.1.1.0.now)
   -- written, read and compared
   pub round-trip-determined : OneAnswer {L = Lent} round_trip.Learnt (λ κs s. lent_of s.1.1.1.0.now s.1.1.1.1.0.now s.1.1.1.1.1.0.now s.1.1.1.1.1.1.0.now)
 
@@ -393,14 +409,16 @@ determined =
     record {
       row-of-determined = row-of-one;
       within-determined = within-one;
-      within-words-determined = within-words-one;
-      put-byte-determined = put-byte-one;
-      put-text-determined = put-text-one;
-      put-decimal-determined = put-decimal-one;
-      put-named-determined = put-named-one;
-      put-hex-determined = put-hex-one;
-      put-bits-determined = put-bits-one;
+      page-new-determined = page-new-one;
+      page-place-determined = page-place-one;
+      page-byte-determined = page-byte-one;
+      page-text-determined = page-text-one;
+      page-decimal-determined = page-decimal-one;
+      page-named-determined = page-named-one;
+      page-hex-determined = page-hex-one;
+      page-bits-determined = page-bits-one;
       digit-at-determined = digit-at-one;
+      decimal-digit-at-determined = decimal-digit-at-one;
       decimal-determined = decimal-one;
       hex-determined = hex-one;
       literal-determined = literal-one;
@@ -411,9 +429,9 @@ determined =
       list-determined = list-one;
       byte-string-determined = byte-string-one;
       mark-determined = mark-one;
-      mark-words-determined = mark-words-one;
       changed-determined = changed-one;
-      words-changed-determined = words-changed-one;
+      letter-in-determined = letter-in-one;
+      room-of-determined = room-of-one;
       read-be-determined = read-be-one;
       read-le-determined = read-le-one;
       ber-oid-len-determined = ber-oid-len-one;
@@ -427,7 +445,9 @@ determined =
       nearest-binary64-determined = nearest-binary64-one;
       binary64-to-binary32-determined = binary64-to-binary32-one;
       binary32-to-binary64-determined = binary32-to-binary64-one;
+      bits-of-determined = bits-of-one;
       whole-part-determined = whole-part-one;
+      code-length-determined = code-length-one;
       decode-imapb-determined = decode-imapb-one;
       unless-special-determined = unless-special-one;
       check-length-determined = check-length-one;
@@ -449,6 +469,7 @@ determined =
       corr-slots-determined = corr-slots-one;
       triangle-slot-determined = triangle-slot-one;
       bounded-slots-determined = bounded-slots-one;
+      refusal-from-broken-determined = refusal-from-broken-one;
       by-determined = by_one;
       is-pushed-determined = is-pushed-one;
       read-item-determined = read-item-one;
@@ -546,8 +567,6 @@ determined =
       of-set-determined = of-set-one;
       of-place-determined = of-place-one;
       put-reply-determined = put-reply-one;
-      within-tags-determined = within-tags-one;
-      tags-changed-determined = tags-changed-one;
       put-bytes-determined = put-bytes-one;
       put-deviations-determined = put-deviations-one;
       put-slots-determined = put-slots-one;

@@ -13,6 +13,7 @@ use lib.Ieee.{Float, binary32, binary64, of_bits, le}
 use lib.Ieee.Bits.{is_true, of_bits-to_bits, of_bits-fits}
 use lib.Ieee.Fits.{sub-fits}
 use lib.Ieee.Scale.{finite}
+use Rattle.std.specs.Prelude.{Option, None}
 use Rattle.answers.specs.Every.{every}
 use Rattle.answers.specs.Lent.{over, tab}
 use Rattle.answers.proofs.Every.{every-not, every_true, every-each, every-same}
@@ -26,12 +27,11 @@ use Rattle.layout.specs.declared.pack.SdccFlp.{SdccFlp}
 use Rattle.layout.specs.Header.{said_size, control_of, body_at}
 use Rattle.layout.specs.Size.{max_rows}
 use Rattle.layout.specs.Triangle.{slots_of}
-use Rattle.elements.specs.declared.head.Head.{Head}
+use Rattle.layout.specs.declared.header.Head.{Head}
 use Rattle.elements.specs.Elements.{head_of, codes_at, slot_in, deviations, correlations, states}
 use Rattle.elements.specs.Listed.{pack_of}
 use Rattle.elements.proofs.States.{state-absent}
 use Rattle.deviations.specs.declared.form.DeviationRange.{DeviationRange}
-use Rattle.deviations.specs.declared.form.DeviationRange.TheVariants.{Unknown}
 use Rattle.deviations.specs.Range.{deviations_over}
 use Rattle.slots.specs.Slots.{sent}
 use Rattle.writer.specs.Pack.{is_sparse, pack_bytes}
@@ -62,7 +62,7 @@ module _ (bytes : List ℕ) (k : ℕ) (v : NoValue bytes k) where
       let z = eqb-false (state k) 0 (state-absent bytes (body_at bytes) (codes_at (head_of bytes)) (control_of bytes) k ∙ ap not v.present) in
       lt-leb (state k) 1 (omega (arith, v.other))
 
-  unusable : (range : DeviationRange) (ds₀ cs₀ ss₀ : List ℕ) → usable_read range bytes ds₀ cs₀ ss₀ ≡ false
+  unusable : (range : Option DeviationRange) (ds₀ cs₀ ss₀ : List ℕ) → usable_read range bytes ds₀ cs₀ ss₀ ≡ false
   unusable range ds₀ cs₀ ss₀ =
       let h = head_of bytes in
       let M = slots_of (said_size bytes) in
@@ -82,7 +82,7 @@ module _ (ds cs : List ℕ) (L : ℕ) (s : Sendable ds cs L) (ds₀ cs₀ ss₀ 
   sent_pack = record { matrix_size = length ds; deviations = length ds; slots = length cs }
 
   pack-is : pack_of h ≡ sent_pack
-  pack-is = sym (pack-read Unknown bytes (length ds) (length cs) (length cs) sent_pack (sym ((round_trip ds cs L s).read (length ds) (length cs) (length cs) (omega arith) (omega arith) (omega arith))))
+  pack-is = sym (pack-read None bytes (length ds) (length cs) (length cs) sent_pack (sym ((round_trip ds cs L s).read (length ds) (length cs) (length cs) (omega arith) (omega arith) (omega arith))))
 
   fits : counts_fit (pack_of h) ≡ true
   fits = ap counts_fit pack-is ∙ rw (le-leb (length ds) max_rows s.rows, eq-eqb (length ds) (length ds) refl, or-true (eqb (length ds) 0), eq-eqb (length cs) (slots_of (length ds)) s.slots)
@@ -115,7 +115,7 @@ module _ (ds cs : List ℕ) (L : ℕ) (s : Sendable ds cs L) (ds₀ cs₀ ss₀ 
   abbrev rounded : ℕ → Float
   rounded i = nearest binary32 (of_bits binary64 (get_or ds i 0))
 
-  usable-is : usable_read Unknown bytes ds₀ cs₀ ss₀ ≡ every (length ds) (λ i. at_least_zero (rounded i))
+  usable-is : usable_read None bytes ds₀ cs₀ ss₀ ≡ every (length ds) (λ i. at_least_zero (rounded i))
   usable-is =
       by-deviations (pack_of h) (slots_of (said_size bytes)) (over (deviations bytes h) ds₀) (over (correlations bytes h) cs₀) (over (states bytes h) ss₀) fits refl
       (ap (λ (m : ℕ). first_all is_correlation m (over (correlations bytes h) cs₀)) slots-are ∙ correlations-pass)
@@ -124,7 +124,7 @@ module _ (ds cs : List ℕ) (L : ℕ) (s : Sendable ds cs L) (ds₀ cs₀ ss₀ 
       ∙ front-every is_deviation (length ds) (λ i. rounding (get_or ds i 0)) (deviations bytes h) ds₀ (round_trip ds cs L s).back.deviations
       ∙ every-same (length ds) (λ i _. ap at_least_zero (rounding-value (get_or ds i 0)))
 
-  sent-usable : (usable_read Unknown bytes ds₀ cs₀ ss₀ ≡ true) ↔ ((i : ℕ) → i < length ds → T (le zero_value (rounded i)))
+  sent-usable : (usable_read None bytes ds₀ cs₀ ss₀ ≡ true) ↔ ((i : ℕ) → i < length ds → T (le zero_value (rounded i)))
   sent-usable = (
     λ u i l.
         let p = every-each (length ds) (λ i. at_least_zero (rounded i)) (sym usable-is ∙ u) i l in

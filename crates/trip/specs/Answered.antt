@@ -1,5 +1,5 @@
 -- Demand 1, one half: every input of every public function that answers by the table has an answer of it.
-use Rattle.std.specs.Prelude.{List, ℕ, Float}
+use Rattle.std.specs.Prelude.{List, ℕ, Float, Option}
 use Rattle.answers.specs.Listed.{InTable}
 use Rattle.imapb.specs.Tables.{length_rule, code_rules, range_rule, imapb_written, special_written}
 use Rattle.imapb.specs.declared.special.ImapbSpecial.{ImapbSpecial}
@@ -9,7 +9,7 @@ use Rattle.layout.specs.declared.rule.Rule.{Rule}
 use Rattle.layout.specs.Header.{head_rules}
 use Rattle.layout.specs.Size.{size_rules, fit_rules}
 use Rattle.sets.specs.Rules.{set_answer}
-use Rattle.elements.specs.declared.head.Head.{Head}
+use Rattle.layout.specs.declared.header.Head.{Head}
 use Rattle.deviations.specs.declared.form.DeviationRange.{DeviationRange}
 use Rattle.deviations.specs.Range.{lent_rule}
 use Rattle.rules.specs.Named.{rule_of}
@@ -29,15 +29,15 @@ use Rattle.writer.specs.Rules.{write_answer}
 
 pub record Answered : Type 0 where
   -- the reader, for every byte string, all rooms and every range or none; the header and the size check within it
-  pub reads_in : (range : DeviationRange) (bytes : List ℕ) (d c s : ℕ) → InTable (read_answer_in range bytes d c s)
+  pub reads_in : (range : Option DeviationRange) (bytes : List ℕ) (d c s : ℕ) → InTable (read_answer_in range bytes d c s)
   pub reads : (bytes : List ℕ) (d c s : ℕ) → InTable (read_answer bytes d c s)
   pub heads : (bytes : List ℕ) → InTable (head_rules bytes)
   pub fits : (n R : ℕ) (k : ParseControl) → InTable (size_rules n R k)
   pub opens : (bytes : List ℕ) → InTable (fit_rules bytes)
-  pub lent : (range : DeviationRange) → InTable (lent_rule range)
-  pub decides : (range : DeviationRange) (bytes : List ℕ) → InTable (pack_rules range bytes)
+  pub lent : (range : Option DeviationRange) → InTable (lent_rule range)
+  pub decides : (range : Option DeviationRange) (bytes : List ℕ) → InTable (pack_rules range bytes)
   pub rooms : (h : Head) (d c s : ℕ) → InTable (room_rules h d c s)
-  pub stores : (range : DeviationRange) (bytes : List ℕ) (d c s : ℕ) → InTable (store_rules range bytes d c s)
+  pub stores : (range : Option DeviationRange) (bytes : List ℕ) (d c s : ℕ) → InTable (store_rules range bytes d c s)
   pub rooms-for : (rows slots d c s : ℕ) → InTable (rooms_rule rows slots d c s)
   -- a set, for every byte string and every tag list
   pub takes : (set : List ℕ) (room : ℕ) → InTable (set_answer set room)

@@ -1,13 +1,12 @@
 -- Document 01, "Packs and values on both sides of each limit": the marked ones, P1 to P12.
-use Rattle.std.specs.Prelude.{ℕ, Bool, true, false, List, [], ◌∷◌, ◌++◌, eqb, length, replicate}
+use Rattle.std.specs.Prelude.{ℕ, Bool, true, false, List, [], ◌∷◌, ◌++◌, eqb, length, replicate, Option, None}
 use Rattle.std.specs.Float.{binary64}
 use Rattle.std.specs.Float.Ieee.{of_bits}
 use Rattle.answers.specs.Table.{Answer, answer, short, wholes, pick}
 use Rattle.layout.specs.Size.{max_rows, max_slots}
 use Rattle.elements.specs.Elements.{head_of, correlations, states}
 use Rattle.deviations.specs.declared.form.DeviationRange.{DeviationRange}
-use Rattle.deviations.specs.declared.form.DeviationRange.TheVariants.{Unknown, Known}
-use Rattle.deviations.specs.Range.{deviations_over}
+use Rattle.deviations.specs.Range.{known, deviations_over}
 use Rattle.reader.specs.Rules.{read_answer_in}
 use Rattle.writer.specs.Pack.{pack_bytes}
 use Rattle.writer.specs.Rules.{write_answer}
@@ -29,7 +28,7 @@ abbrev pub refused : Answer → Outcome
 refused a = outcome_of a [] [] [] false
 
 -- over a range or none, with room enough for any pack within the limits
-abbrev pub outcome : DeviationRange → List ℕ → Outcome
+abbrev pub outcome : Option DeviationRange → List ℕ → Outcome
 outcome range bytes = given (read_answer_in range bytes max_rows max_slots max_slots)
   where
     given : Answer → Outcome
@@ -137,9 +136,9 @@ pub data Result : Type 0 where
   wrote : Answer → List ℕ → Result
 
 abbrev pub comes_to : Row → Result
-comes_to (reads bytes gives) = read (outcome Unknown bytes)
+comes_to (reads bytes gives) = read (outcome None bytes)
 comes_to (reads_in min max bytes gives) =
-    read (outcome (Known (of_bits binary64 min) (of_bits binary64 max)) bytes)
+    read (outcome (known (of_bits binary64 min) (of_bits binary64 max)) bytes)
 comes_to (writes ds cs L pack) = wrote (write_answer ds cs L (length pack)) (pack_bytes ds cs L)
 
 abbrev pub is_to : Row → Result

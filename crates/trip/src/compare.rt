@@ -7,8 +7,7 @@ ghost use Rattle.plan.specs.Rules.{InRange, Supported};
 ghost use Rattle.trip.specs.Values.{correlation_kept};
 ghost use Rattle.trip.specs.Compared.{slot_agrees, deviations_agree, slots_agree, numbers_agree, Comparable};
 
-use answers::Written;
-use imapb::decode::{DecodedImapb, ImapbRead, decode_imapb};
+use imapb::decode::{DecodedImapb, decode_imapb};
 use imapb::encode::encode_imapb;
 use numbers::conversions::{binary32_to_binary64, binary64_to_binary32};
 
@@ -17,14 +16,7 @@ fn same_deviations(sent: &[u64], back: &[u64]) -> bool
     requires { length sent.now ≤ length back.now }
     ensures { result ≡ deviations_agree sent.now back.now }
 {
-    let mut i: usize = 0;
-    while i < sent.len() {
-        if back[i] != binary32_to_binary64(binary64_to_binary32(sent[i])) {
-            return false;
-        }
-        i += 1;
-    }
-    true
+    sent.iter().zip(back).all(|(&d, &r)| r == binary32_to_binary64(binary64_to_binary32(d)))
 }
 
 // The value of a correlation's code.
@@ -33,11 +25,11 @@ fn value_back(clen: usize, sent: u64) -> u64
     ensures { result ≡ correlation_kept clen sent }
 {
     let mut code = [0u8; 8];
-    let Written::Done(_) = encode_imapb(clen, sent, &mut code) else {
+    let Ok(_) = encode_imapb(clen, sent, &mut code) else {
         return 0;
     };
     let read = decode_imapb(clen, &code[..clen]);
-    let ImapbRead::Done(decoded) = read else {
+    let Ok(decoded) = read else {
         return 0;
     };
     let DecodedImapb::Value(x) = decoded else {
@@ -69,12 +61,10 @@ fn same_slots(clen: usize, sent: &[u64], back: &[u64], states: &[u8]) -> bool
         × (length sent.now ≤ length states.now) }
     ensures { result ≡ slots_agree clen sent.now back.now states.now }
 {
-    let mut k: usize = 0;
-    while k < sent.len() {
-        if !same_slot(clen, sent[k], back[k], states[k]) {
+    for (k, &slot) in sent.iter().enumerate() {
+        if !same_slot(clen, slot, back[k], states[k]) {
             return false;
         }
-        k += 1;
     }
     true
 }

@@ -2,8 +2,7 @@
 ghost use Rattle.trip.specs.Tripped.{lent_of, Tripped};
 
 use crate::compare::same_numbers;
-use answers::Written;
-use reader::read::{ReadAnswer, decode_sdcc_flp};
+use reader::read::decode_sdcc_flp;
 use writer::write::encode_sdcc_flp_mode2;
 
 // Whether the deviations and the correlations, written to the front of `pack` and read from there, come back.
@@ -23,12 +22,12 @@ pub fn round_trip(
         states.new) result }
 {
     let written = encode_sdcc_flp_mode2(deviations, correlations, clen, pack);
-    let Written::Done(n) = written else {
+    let Ok(n) = written else {
         return false;
     };
     let bytes = &pack[..];
     let read = decode_sdcc_flp(&bytes[..n], deviations_back, correlations_back, states);
-    let ReadAnswer::Done(_) = read else {
+    let Ok(_) = read else {
         return false;
     };
     same_numbers(

@@ -5,7 +5,6 @@ ghost use Rattle.layout.specs.Size.{max_rows};
 ghost use Rattle.numbers.specs.BerOid.{oid_length};
 ghost use Rattle.writer.specs.Pack.{control_byte, element1, element2, element4, others_over};
 
-use answers::Written;
 use numbers::ber_oid::write_ber_oid;
 use numbers::conversions::binary64_to_binary32;
 use numbers::words::write_be;
@@ -28,8 +27,7 @@ fn write_head(rows: usize, sparse: bool, clen: usize, out: &mut [u8])
     requires { (rows ≤ max_rows) × (clen ≤ 8) × (oid_length rows + 2 ≤ length out.old) }
     ensures { out.new ≡ sets out.old 0 (element1 rows ++ element2 sparse clen) }
 {
-    let size = write_ber_oid(rows as u32, out);
-    let Written::Done(taken) = size else {
+    let Ok(taken) = write_ber_oid(rows as u32, out) else {
         return;
     };
     out[taken] = control_byte(sparse, clen);
@@ -37,21 +35,16 @@ fn write_head(rows: usize, sparse: bool, clen: usize, out: &mut [u8])
     out[taken + 1] = 4;
 }
 
-// The deviations as binary32, from a place on.
+// The deviations as binary32, from a place on: no page, since they are proved to fit.
 fn write_deviations(deviations: &[u64], at: usize, out: &mut [u8])
     requires { at + 4 * length deviations.now ≤ length out.old }
     ensures { out.new ≡ sets out.old at (element4 deviations.now) }
 {
     let mut next = at;
-    let mut i: usize = 0;
-    while i < deviations.len() {
+    for &deviation in deviations {
         let end = next + 4;
-        write_be(
-            binary64_to_binary32(deviations[i]) as u64,
-            &mut out[next..end],
-        );
+        write_be(binary64_to_binary32(deviation) as u64, &mut out[next..end]);
         next = end;
-        i += 1;
     }
 }
 

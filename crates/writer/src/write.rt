@@ -6,8 +6,7 @@ ghost use Rattle.writer.specs.Pack.{pack_bytes};
 ghost use Rattle.writer.specs.Rules.{default_clen, write_answer};
 
 use crate::elements::write_others;
-use answers::Written;
-use plan::pack::Planned;
+use answers::Refusal;
 use slots::write::write_slots;
 
 const DEFAULT_CLEN: usize = 2;
@@ -18,23 +17,23 @@ pub fn encode_sdcc_flp_mode2(
     correlations: &[u64],
     clen: usize,
     out: &mut [u8],
-) -> Written
+) -> Result<usize, Refusal>
     ensures { (written result
         ≡ write_answer deviations.now correlations.now clen (length out.old))
         × (out.new ≡ leaves (written result)
         (pack_bytes deviations.now correlations.now clen) out.old) }
 {
-    let slots = write_slots(deviations.len(), correlations, clen, out);
-    let plan = match slots {
-        Planned::Done(plan) => plan,
-        Planned::Refused(refusal) => return Written::Refused(refusal),
-    };
+    let plan = write_slots(deviations.len(), correlations, clen, out)?;
     write_others(deviations, plan, out);
-    Written::Done(plan.end)
+    Ok(plan.end)
 }
 
 // With the Clen that the standard's users agree on where nobody names one.
-pub fn encode_sdcc_flp(deviations: &[u64], correlations: &[u64], out: &mut [u8]) -> Written
+pub fn encode_sdcc_flp(
+    deviations: &[u64],
+    correlations: &[u64],
+    out: &mut [u8],
+) -> Result<usize, Refusal>
     ensures { (written result
         ≡ write_answer deviations.now correlations.now default_clen (length out.old))
         × (out.new ≡ leaves (written result)

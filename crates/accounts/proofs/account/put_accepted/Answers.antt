@@ -2,7 +2,7 @@
 use mathlib.Core.Path.{sym, ap, ◌∙◌}
 use Rattle.explain.specs.declared.spans.Elements.{Elements}
 use Rattle.explain.proofs.Joined.{joined}
-use Rattle.text.proofs.Pieces.{put_then}
+use Rattle.text.proofs.Adding.{adds_then}
 use Rattle.accounts.proofs.Told.{told}
 use Rattle.accounts.proofs.account.put_accepted.Goals as goal
 
@@ -13,5 +13,4 @@ put_slots-requires c =
     (rw c.requires.1 (told b e), ap (λ (x : Elements). x.codes.start) c.requires.2 ∙ rw c.requires.1 (sym (joined b e).first))
 
 pub returns : goal.returns
-returns c =
-    put_then (put_then c.put_named-sized.ensures c.put_elements-placed.ensures) c.put_slots.ensures
+returns c = adds_then (adds_then c.named.ensures c.put_elements.ensures) c.put_slots.ensures

@@ -1,10 +1,11 @@
 -- `slots::put_slots` meets its contract: each turn puts the next row behind those before it.
-use mathlib.Core.Path.{◌≡◌, refl, sym, ap, ◌∙◌}
+use mathlib.Core.Path.{◌≡◌, sym, ap, ◌∙◌}
 use Prim.Native.Nat.{ℕ, ◌+◌, ◌-◌}
+use native.Mathlib.Numerals.{add-one}
 use native.Mathlib.Omega.{arith}
 use Rattle.layout.specs.Triangle.{slot_of}
 use Rattle.layout.proofs.RowByRow.{row_first, row_next, row_within}
-use Rattle.text.proofs.Pieces.{puts_none, puts-more}
+use Rattle.text.proofs.Adding.{adds_none, adds_then}
 use Rattle.accounts.proofs.Told.{slots-fit}
 use Rattle.accounts.proofs.slots.put_slots.Goals as goal
 use Rattle.accounts.proofs.slots.put_slots.Goals.{In-loop-i}
@@ -19,7 +20,7 @@ carried c =
 
 pub loop-i-init : goal.loop-i-init
 loop-i-init c =
-    (puts_none refl c.within-next.ensures.value, sym (row_first c.args.head.n), c.requires.1)
+    (adds_none c.args.page.now, sym (row_first c.args.head.n), c.requires.1)
 
 pub overflow_add-first : goal.overflow_add-first
 overflow_add-first c =
@@ -28,4 +29,4 @@ overflow_add-first c =
 
 pub loop-i-preserved : goal.loop-i-preserved
 loop-i-preserved c =
-    let t = (goal.at.loop-i-preserved c).In-loop-i in (puts-more t.loop-i.invariant.0 t.loop-i-test.true refl c.put_row-reached.ensures.0, carried t, c.put_row-reached.ensures.1)
+    let t = (goal.at.loop-i-preserved c).In-loop-i in (rw (add-one t.loop-i.i) (adds_then t.loop-i.invariant.0 c.put_row-code.ensures.0), carried t, c.put_row-code.ensures.1)

@@ -4,7 +4,7 @@ use native.Mathlib.Nat.{add-sub_cancel_left}
 use Rattle.elements.specs.Elements.{part, state_of}
 use Rattle.imapb.specs.Tables.{imapb_listed, imapb_read}
 use Rattle.imapb.proofs.Law.{reads-value}
-use Rattle.codes.proofs.CodesRead.{top-is, read_as}
+use Rattle.codes.proofs.CodesRead.{read_as}
 use Rattle.codes.proofs.mapped.state_at.Goals as goal
 use Rattle.codes.proofs.mapped.state_at.Goals.{After-decode_imapb-read}
 
@@ -20,11 +20,11 @@ pub returns-then-code_at-mapping : goal.returns-then-code_at-mapping
 returns-then-code_at-mapping c =
     let m = c.args.mapping in
     let e = c.code_at.ensures in
-    let l = rw (e, top-is m c.requires.0) at c.if-code_at-mapping.true in
-    rw (reads-value m.length _ c.requires.0.least l)
+    let l = rw (e, m.top_is) at c.if-code_at-mapping.true in
+    rw (reads-value m.length _ m.least l)
 
 pub returns : goal.returns
 returns c =
     let d = (goal.at.returns c).After-decode_imapb-read in let m = d.args.mapping in
     c.state_of.ensures
-    ∙ ap state_of (read_as m.length d.requires.0.least d.requires.0.most d.args.bytes.now d.args.at d.requires.2 c.in-Done.is (read d))
+    ∙ ap state_of (read_as m.length m.least m.most d.args.bytes.now d.args.at d.requires.1 c.in-Ok.is (read d))

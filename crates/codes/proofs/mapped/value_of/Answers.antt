@@ -5,7 +5,6 @@ use Rattle.imapb.specs.Mapping.{value, value_of}
 use Rattle.imapb.proofs.Law.{reads-value}
 use Rattle.imapb.proofs.NoNan.{value-number}
 use Rattle.imapb.proofs.Range.{one-is}
-use Rattle.codes.proofs.CodesRead.{top-is, scale-is}
 use Rattle.codes.proofs.mapped.value_of.Goals as goal
 use Rattle.codes.proofs.mapped.value_of.Goals.{After-nearest}
 
@@ -14,7 +13,7 @@ read : (c : After-nearest) → let a = c.args in
     sub binary64 (div binary64 c.nearest.result a.mapping.scale) (of_bits binary64 0x3ff0000000000000) ≡ value_of a.mapping.length a.y
 unfolding value
 read c =
-    rw (c.nearest.ensures, scale-is c.args.mapping c.requires, one-is)
+    rw (c.nearest.ensures, c.args.mapping.scale_is, one-is)
 
 pub float_to_bits-result : goal.float_to_bits-result
 float_to_bits-result c =
@@ -23,4 +22,4 @@ float_to_bits-result c =
 
 pub returns : goal.returns
 returns c =
-    rw (read (goal.at.returns c).After-nearest, reads-value c.args.mapping.length c.args.y c.requires.least (omega (arith, top-is c.args.mapping c.requires)))
+    rw (read (goal.at.returns c).After-nearest, reads-value c.args.mapping.length c.args.y c.args.mapping.least (omega (arith, c.args.mapping.top_is)))

@@ -1,4 +1,4 @@
-use Rattle.std.proofs.Common.{◌≡◌, ◌+◌, ◌-◌, ◌*◌}
+use Rattle.std.proofs.Common.{◌≡◌, ◌+◌, ◌*◌}
 use Rattle.answers.specs.Lent.{tab}
 use Rattle.answers.proofs.Lent.{Front}
 use Rattle.codes.specs.Fill.{Within, mapped_in}
@@ -9,6 +9,3 @@ invariant-loop-k l = Front (tab l.slots (mapped_in l.bytes l.codes l.mapping.len
     × Front (tab l.slots (λ _. 1)) l.initial.states l.k l.states
     × (l.at ≡ l.codes + l.k * l.mapping.length)
     × Within l.bytes l.codes l.mapping.length l.k l.met
-
-abbrev pub decreases-loop-k : goal.decreases-loop-k
-decreases-loop-k l = l.slots - l.k

@@ -1,7 +1,6 @@
 -- `values::fill_group` meets its contract: each turn stores an absent slot, and over it the next code's number where
 -- the slot's bit is set.
 use Rattle.std.proofs.Common.{◌+◌, ◌*◌, ◌^◌, ◌<◌, ◌≤◌, length, arith}
-use Rattle.codes.specs.Fill.{Maps}
 use Rattle.codes.proofs.Counts.{within-fits}
 use Rattle.codes.proofs.Marked.{group-code, group-set, group-unset}
 use Rattle.codes.proofs.values.fill_group.Goals as goal
@@ -16,7 +15,7 @@ few s = (omega arith, (omega arith, omega arith))
 -- the next code
 there : (c : Then-byte-j-eq1)
     → let a = c.args in
-    Maps a.mapping × (8 ≤ c.loop-j.next) × (c.loop-j.next + a.mapping.length ≤ length a.bytes.now)
+    (8 ≤ c.loop-j.next) × (c.loop-j.next + a.mapping.length ≤ length a.bytes.now)
 there c =
     let p = c.requires in
     group-code c.loop-j.invariant c.loop-j-test.true p.1 c.if-byte-j-eq1.true p.0
@@ -25,7 +24,7 @@ pub code_at-y-requires : goal.code_at-y-requires
 code_at-y-requires c = there c
 
 pub overflow_add-next : goal.overflow_add-next
-overflow_add-next c = let t = (goal.at.overflow_add-next c).Then-byte-j-eq1 in within-fits (there t).2 (few (goal.at.overflow_add-next c).Start).0
+overflow_add-next c = let t = (goal.at.overflow_add-next c).Then-byte-j-eq1 in within-fits (there t).1 (few (goal.at.overflow_add-next c).Start).0
 
 pub loop-j-preserved : goal.loop-j-preserved
 loop-j-preserved c =

@@ -9,7 +9,7 @@ pub loop-i-preserved : goal.loop-i-preserved
 loop-i-preserved c =
     let a = c.args in
     let i = c.loop-i.i in
-    (omega arith, omega arith, rw (ones-to a.bytes.now a.at i 8 (8 * (i + 1)) (omega arith) (omega arith) (omega arith)) (cc))
+    (omega arith, rw (ones-to a.bytes.now a.at i 8 (8 * (i + 1)) (omega arith) (omega arith) (omega arith)) (cc))
 
 pub returns : goal.returns
 returns c =

@@ -4,5 +4,4 @@ use Rattle.numbers.proofs.BerOid.{read-tells}
 use Rattle.explain.proofs.spans.control_at.Goals as goal
 
 pub returns : goal.returns
-returns c =
-    (read-tells c.args.bytes.now (sym c.in-Read.is ∙ c.read_ber_oid-oid.ensures)).0
+returns c = (read-tells c.args.bytes.now (sym c.unwrap.ensures ∙ c.read_ber_oid.ensures)).0

@@ -8,13 +8,13 @@ use Rattle.imapb.proofs.decode.overflow_signal.Goals as goal
 use Rattle.imapb.proofs.decode.overflow_signal.Goals.{Start}
 
 -- the byte E1 and zeros
-above : (s : Start) → s.args.top / 128 ≡ 2 ^ (8 * s.args.length - 8)
-above s = rw s.requires.2 (let n = s.args.length in top-cut n 7 (8 * n - 8) (omega arith))
+above : (s : Start) → let m = s.args.mapping in m.top / 128 ≡ 2 ^ (8 * m.length - 8)
+above s = let m = s.args.mapping in rw m.top_is (top-cut m.length 7 (8 * m.length - 8) (omega (arith, m.least)))
 
-pub returns-then-payload-top : goal.returns-then-payload-top
-returns-then-payload-top c =
-    let s = (goal.at.returns-then-payload-top c).Start in rw (ne_eqb s.args.payload 0 c.if-payload-eq0.false, eq-eqb s.args.payload _ (c.if-payload-top.true ∙ above s))
+pub returns-then-payload-mapping : goal.returns-then-payload-mapping
+returns-then-payload-mapping c =
+    let s = (goal.at.returns-then-payload-mapping c).Start in rw (ne_eqb s.args.payload 0 c.if-payload-eq0.false, eq-eqb s.args.payload _ (c.if-payload-mapping.true ∙ above s))
 
-pub returns-else-payload-top : goal.returns-else-payload-top
-returns-else-payload-top c =
-    let s = (goal.at.returns-else-payload-top c).Start in rw (ne_eqb s.args.payload 0 c.if-payload-eq0.false, ne_eqb s.args.payload _ (rw (above s) at c.if-payload-top.false))
+pub returns-else-payload-mapping : goal.returns-else-payload-mapping
+returns-else-payload-mapping c =
+    let s = (goal.at.returns-else-payload-mapping c).Start in rw (ne_eqb s.args.payload 0 c.if-payload-eq0.false, ne_eqb s.args.payload _ (rw (above s) at c.if-payload-mapping.false))

@@ -9,21 +9,21 @@ use Rattle.imapb.proofs.decode.special_of.Goals as goal
 use Rattle.imapb.proofs.decode.special_of.Goals.{Start}
 
 -- the payload's bits
-unit : (s : Start) → s.args.top / 16 ≡ 2 ^ (8 * s.args.length - 5)
-unit s = rw s.requires.2 (let n = s.args.length in top-cut n 4 (8 * n - 5) (omega arith))
+unit : (s : Start) → let m = s.args.mapping in m.top / 16 ≡ 2 ^ (8 * m.length - 5)
+unit s = let m = s.args.mapping in rw m.top_is (top-cut m.length 4 (8 * m.length - 5) (omega (arith, m.least)))
 
 -- the family has five bits
-family : (s : Start) → s.args.y / 2 ^ (8 * s.args.length - 5) < 256
+family : (s : Start) → s.args.y / 2 ^ (8 * s.args.mapping.length - 5) < 256
 family s =
-    let n = s.args.length in
-    omega (arith, cut-more s.args.y (8 * n - 5) 3 (8 * n - 2) (omega arith), s.requires.3)
+    let m = s.args.mapping in
+    omega (arith, cut-more s.args.y (8 * m.length - 5) 3 (8 * m.length - 2) (omega (arith, m.least)), s.requires)
 
 pub overflow_cast-family : goal.overflow_cast-family
 overflow_cast-family c = omega (arith, family (goal.at.overflow_cast-family c).Start)
 
-pub overflow_sub-top : goal.overflow_sub-top
-overflow_sub-top c = rw (unit (goal.at.overflow_sub-top c).Start) (pow_pos (8 * c.args.length - 5))
+pub overflow_sub-mapping : goal.overflow_sub-mapping
+overflow_sub-mapping c = rw (unit (goal.at.overflow_sub-mapping c).Start) (pow_pos (8 * c.args.mapping.length - 5))
 
 pub returns : goal.returns
 returns c =
-    let s = (goal.at.returns c).Start in rw (unit s, and_mask s.args.y (8 * s.args.length - 5)) at c.classify_imapb_special.ensures
+    let s = (goal.at.returns c).Start in rw (unit s, and_mask s.args.y (8 * s.args.mapping.length - 5)) at c.classify_imapb_special.ensures

@@ -9,4 +9,4 @@ float_from_bits-result c = rw (c.nearest_binary64.ensures, nearest-number) tt
 
 pub returns : goal.returns
 unfolding value
-returns c = rw (c.nearest_binary64.ensures, nearest-value, c.scale.ensures, one-is)
+returns c = rw (c.nearest_binary64.ensures, nearest-value, c.args.mapping.scale_is, one-is)

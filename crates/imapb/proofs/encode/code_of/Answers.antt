@@ -4,7 +4,7 @@ use Prim.Native.Nat.{ℕ}
 use native.Mathlib.Omega.{arith}
 use lib.Ieee.{Float, binary64, of_bits}
 use lib.Ieee.Bits.{of_bits-fits, of_bits-to_bits, nan_bits_is}
-use Rattle.numbers.specs.declared.conversions.WholePart.TheVariants.{Whole}
+use Rattle.std.specs.Prelude.{Some}
 use Rattle.numbers.specs.Conversions.{whole_part}
 use Rattle.imapb.specs.Mapping.{code, code_of}
 use Rattle.imapb.proofs.Range.{one-is, range-number}
@@ -16,19 +16,19 @@ abbrev number : Start → Float
 number c = of_bits binary64 c.args.value
 
 abbrev scaled : Start → Float
-scaled c = scaled_sum c.args.length (number c)
+scaled c = scaled_sum c.args.length.bytes (number c)
 
 known : (c : Start) → Cuttable (scaled c)
-known c = cuttable c.args.length c.requires.0 c.requires.1 (number c) (of_bits-fits binary64 c.args.value) c.requires.2
+known c = cuttable c.args.length.bytes c.args.length.least c.args.length.most (number c) (of_bits-fits binary64 c.args.value) c.requires
 
-whole : (c : After-whole_part-whole) → c.whole_part-whole.result ≡ Whole (code_of c.args.length (number c.before.before))
+whole : (c : After-whole_part-whole) → c.whole_part-whole.result ≡ Some (code_of c.args.length.bytes (number c.before.before))
 unfolding whole_part code
 whole c =
     let k = known c.before.before in
     c.whole_part-whole.ensures ∙ rw (c.scale.ensures, one-is, of_bits-to_bits binary64 (scaled c.before.before) k.held, k.from_zero, k.under_64)
 
 pub float_from_bits-sum : goal.float_from_bits-sum
-float_from_bits-sum c = rw (nan_bits_is, range-number (number (goal.at.float_from_bits-sum c).Start) c.requires.2) tt
+float_from_bits-sum c = rw (nan_bits_is, range-number (number (goal.at.float_from_bits-sum c).Start) c.requires) tt
 
 pub float_to_bits-sum : goal.float_to_bits-sum
 float_to_bits-sum c = rw (c.scale.ensures, one-is, (known (goal.at.float_to_bits-sum c).Start).no_nan) tt
@@ -37,4 +37,4 @@ pub returns-in_default : goal.returns-in_default
 returns-in_default c = absurd (let z : ◌≡◌ {A = ℕ} 0 1 = cc (whole (goal.at.returns-in_default c).After-whole_part-whole, c.in_default.is) in omega arith)
 
 pub returns : goal.returns
-returns c = cc (whole (goal.at.returns c).After-whole_part-whole, c.in-Whole.is)
+returns c = cc (whole (goal.at.returns c).After-whole_part-whole, c.in-Some.is)

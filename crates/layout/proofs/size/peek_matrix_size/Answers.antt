@@ -2,27 +2,24 @@
 use mathlib.Core.Path.{◌≡◌, sym, ap, ◌∙◌}
 use mathlib.Core.List.{List}
 use Prim.Native.Nat.{ℕ}
+use native.Mathlib.Omega.{arith}
+use Rattle.std.specs.Prelude.{Err, None, Ok, Result, ⊤}
+use Rattle.std.specs.Result.{result_ok}
 use Rattle.answers.proofs.OneToOne.{refused-not-done}
-use Rattle.layout.specs.declared.header.Header.TheVariants.{Open}
-use Rattle.layout.specs.Header.{header_of}
-use Rattle.layout.specs.Size.{fit_rules}
+use Rattle.layout.specs.declared.rule.Broken.{Broken}
+use Rattle.layout.specs.Size.{fit_rules, peeked}
 use Rattle.layout.specs.Ruled.{ruled, unnamed}
-use Rattle.layout.proofs.Peek.{fit_is}
+use Rattle.layout.proofs.Peek.{fit_is, handed-on}
 use Rattle.layout.proofs.size.peek_matrix_size.Goals as goal
-use Rattle.layout.proofs.size.peek_matrix_size.Goals.{In-Open, In_default-fits}
 
-abbrev bytes_of : In-Open → List ℕ
-bytes_of c = c.args.bytes.now
+-- a rule that refuses gives nothing
+refused : (bytes : List ℕ) (r : Result ⊤ Broken) → result_ok r ≡ None → unnamed (ruled r) ≡ fit_rules bytes → None ≡ peeked bytes
+refused bytes (Ok _) n e = absurd (let z : ◌≡◌ {A = ℕ} 0 1 = cc in omega arith)
+refused bytes (Err b) n e = rw (← e, refused-not-done b.refusal)
 
--- the header that was read
-read : (c : In-Open) → Open c.in-Open.n c.in-Open.control c.in-Open.body ≡ header_of (bytes_of c)
-read c = sym c.in-Open.is ∙ c.header_behind-header.ensures
-
--- the check answers as rules a) to g) do
-checks : (c : In_default-fits)
-    → unnamed (ruled c.check_matrix_size_fits-fits.result) ≡ fit_rules (bytes_of (goal.at.returns-in_default-fits c).In-Open)
-checks c =
-    let h = (goal.at.returns-in_default-fits c).In-Open in ap unnamed (c.check_matrix_size_fits-fits.ensures ∙ sym (fit_is (bytes_of h) (read h)))
-
-pub returns-in_default-fits : goal.returns-in_default-fits
-returns-in_default-fits c = rw (← (checks c), c.in_default-fits.is, refused-not-done c.in_default-fits.field-1)
+pub returns-in_err-ok : goal.returns-in_err-ok
+returns-in_err-ok c =
+    let bytes = c.args.bytes.now in
+    let read = handed-on c.header_behind.result (sym c.ok.ensures.value ∙ c.in_ok-head.was) in
+    let fits = c.check_matrix_size_fits.ensures ∙ sym (fit_is bytes (read ∙ c.header_behind.ensures)) in
+    c.from_residual-in_err-ok.ensures ∙ refused bytes _ (sym c.ok-2.ensures.value ∙ c.in_err-ok.was) (ap unnamed fits)

@@ -1,7 +1,6 @@
 -- `line::put_counts` meets its contract: one piece behind the other.
-use Rattle.text.proofs.Pieces.{put_then}
+use Rattle.text.proofs.Adding.{adds_then}
 use Rattle.lines.proofs.line.put_counts.Goals as goal
 
 pub returns : goal.returns
-returns c =
-    put_then (put_then (put_then c.put_named-sized.ensures c.put_named-rowed.ensures) c.put_named-counted.ensures) c.put_byte.ensures
+returns c = adds_then (adds_then (adds_then c.named.ensures c.named-2.ensures) c.named-3.ensures) c.text.ensures

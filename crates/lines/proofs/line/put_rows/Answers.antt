@@ -1,8 +1,7 @@
 -- `line::put_rows` meets its contract: each turn puts the next line behind those before it.
-use mathlib.Core.Path.{refl}
-use Rattle.text.proofs.Pieces.{puts-more}
+use native.Mathlib.Numerals.{add-one}
+use Rattle.text.proofs.Adding.{adds_then}
 use Rattle.lines.proofs.line.put_rows.Goals as goal
 
 pub loop-i-preserved : goal.loop-i-preserved
-loop-i-preserved c =
-    puts-more c.loop-i.invariant c.loop-i-test.true refl c.put_line-next.ensures
+loop-i-preserved c = rw add-one (adds_then c.loop-i.invariant c.put_line.ensures)

@@ -1,12 +1,8 @@
-use Prim.Native.Nat.{◌-◌}
-use lib.ListN.{take, drop}
-use Rattle.text.proofs.Pieces.{Rest}
+use lib.ListN.{drop}
+use Rattle.text.proofs.Adding.{Owes}
 use Rattle.lines.specs.Lines.{entries}
 use Rattle.lines.proofs.Entries.{kinds}
 use Rattle.lines.proofs.values.put_entries.Given as goal
 
-abbrev pub invariant-loop-i : goal.invariant-loop-i
-invariant-loop-i l = Rest (entries (kinds l.floats (drop l.i (take l.count l.values)))) l.next l.out (entries (kinds l.floats (take l.count l.values))) l.at l.initial.out
-
-abbrev pub decreases-loop-i : goal.decreases-loop-i
-decreases-loop-i l = l.most - l.i
+abbrev pub invariant-loop-value : goal.invariant-loop-value
+invariant-loop-value l = Owes (entries (kinds l.floats (drop l.value-index l.value-items))) l.page (entries (kinds l.floats l.value-items)) l.initial.page

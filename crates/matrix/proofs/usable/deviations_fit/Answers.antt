@@ -1,21 +1,22 @@
--- `usable::deviations_fit` meets its contract. The invariant: which tests are left.
+-- `usable::deviations_fit` meets its contract: the chain makes the test of each.
 use mathlib.Core.Path.{sym, ◌∙◌}
 use native.Mathlib.Omega.{arith}
-use Rattle.answers.proofs.Every.{tested-not, tested-all}
+use borrow.Author.Rules.{rules}
+use borrow.Author.Tests.{lt-leb, tests}
+use lib.ListN.{length, take}
+use Rattle.std.proofs.lemmas.Iterator.{YieldsList-from_slice}
+use Rattle.std.proofs.lemmas.Iterator.Search.{all_from_yields_List}
 use Rattle.matrix.specs.Usable.{is_deviation}
-use Rattle.matrix.proofs.FirstAll.{too_few, first-every}
+use Rattle.matrix.proofs.FirstAll.{too_few, first-chain}
 use Rattle.matrix.proofs.usable.deviations_fit.Goals as goal
 
-pub returns-then-deviations-count : goal.returns-then-deviations-count
-returns-then-deviations-count c = let a = c.args in sym (too_few is_deviation a.count a.deviations.now (omega arith))
-
-pub returns-then-not-is_deviation : goal.returns-then-not-is_deviation
-returns-then-not-is_deviation c =
+pub returns-then-count-deviations : goal.returns-then-count-deviations
+returns-then-count-deviations c =
     let a = c.args in
-    tested-not c.loop-i.invariant (omega arith) (sym c.is_deviation.ensures ∙ c.if-not-is_deviation.true)
-    ∙ sym (first-every is_deviation a.count a.deviations.now (omega arith))
+    all_from_yields_List is_deviation _ _ _ c.all.ensures.ran (YieldsList-from_slice (take a.count a.deviations.now) cc) (λ x b q k. search (rules, tests))
+    ∙ first-chain is_deviation a.count a.deviations.now (omega arith)
 
-pub returns : goal.returns
-returns c =
+pub returns-else-count-deviations : goal.returns-else-count-deviations
+returns-else-count-deviations c =
     let a = c.args in
-    tested-all c.loop-i.invariant (omega arith) ∙ sym (first-every is_deviation a.count a.deviations.now (omega arith))
+    lt-leb a.count (length a.deviations.now) (omega arith) ∙ sym (too_few is_deviation a.count a.deviations.now (omega arith))

@@ -1,13 +1,13 @@
 -- `store::store_states` meets its contract.
-use mathlib.Core.Path.{refl}
-use Rattle.answers.proofs.Tab.{tab-none, tab-more, tab-done}
+use native.Mathlib.Omega.{arith}
+use mathlib.Core.Path.{◌∙◌}
+use Rattle.answers.specs.Lent.{tab}
+use Rattle.answers.proofs.Lent.{length-tab}
+use Rattle.answers.proofs.Stored.{sets_over}
+use Rattle.npy_header.proofs.Filled.{filled}
 use Rattle.npy.proofs.store.store_states.Goals as goal
 
-pub loop-k-init : goal.loop-k-init
-loop-k-init c = tab-none c.args.slots (λ _. 1) c.requires
-
-pub loop-k-preserved : goal.loop-k-preserved
-loop-k-preserved c = tab-more c.args.slots (λ _. 1) c.loop-k.invariant c.loop-k-test.true refl
-
 pub returns : goal.returns
-returns c = tab-done c.args.slots (λ _. 1) c.loop-k.invariant c.loop-k-test.false
+returns c =
+    let n = c.args.slots in let l = c.args.states.now in
+    filled 0 n 1 l (omega arith) (c.fill.ensures.after (λ y h. h)) ∙ sets_over (tab n (λ _. 1)) l (omega (arith, length-tab n (λ _. 1)))

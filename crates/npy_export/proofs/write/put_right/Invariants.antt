@@ -4,8 +4,5 @@ use Rattle.layout.specs.Triangle.{slot_of}
 use Rattle.npy_export.specs.Parts.{slot_bytes}
 use Rattle.npy_export.proofs.write.put_right.Given as goal
 
-abbrev pub invariant-loop-k : goal.invariant-loop-k
-invariant-loop-k l = Run (l.rows - 1 - l.i) (λ k. slot_bytes l.correlations (slot_of l.rows l.i (l.i + 1 + k))) l.at l.initial.out l.k l.out l.next
-
-abbrev pub decreases-loop-k : goal.decreases-loop-k
-decreases-loop-k l = l.rows - 1 - l.i - l.k
+abbrev pub invariant-loop-correlation : goal.invariant-loop-correlation
+invariant-loop-correlation l = Run (l.rows - 1 - l.i) (λ k. slot_bytes l.correlations (slot_of l.rows l.i (l.i + 1 + k))) l.at l.initial.out l.correlation-index l.out l.next

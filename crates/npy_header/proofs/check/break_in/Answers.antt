@@ -8,6 +8,6 @@ pub returns : goal.returns
 unfolding break_in
 returns c =
     let n = c.size_in.ensures in
-    let room = c.room_for_header-header in
-    let e = c.put_header.ensures ∙ header-filled c.size_in.result n.1 room.result room.ensures in
+    let room = c.room_of-header in
+    let e = c.put_header.ensures ∙ header-filled c.size_in.result n.1 room.result room.ensures.long in
     rw (e, n.0) at c.first_break.ensures

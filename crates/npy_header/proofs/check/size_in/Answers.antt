@@ -1,5 +1,5 @@
 -- `check::size_in` meets its contract. The invariant: what is left to take, behind n, spells the size.
-use native.Mathlib.Omega.{arith}
+use mathlib.Core.Path.{sym, ◌∙◌}
 use Rattle.npy_header.proofs.Headers.{sizing-none, sizing-more}
 use Rattle.npy_header.proofs.check.size_in.Goals as goal
 
@@ -8,5 +8,4 @@ loop-i-init c = sizing-none c.args.file.now
 
 pub loop-i-preserved : goal.loop-i-preserved
 loop-i-preserved c =
-    let d = c.digit_at-digit.ensures in
-    rw d (sizing-more c.loop-i.invariant c.loop-i-test.true (omega (arith, d)) (λ z. c.if-n-eq0.false (omega (arith, d))))
+    sizing-more c.loop-i.invariant c.loop-i-test.true (sym c.decimal_digit_at.ensures ∙ c.in-Some.is) c.if-n-eq0.false

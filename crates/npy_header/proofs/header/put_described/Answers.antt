@@ -1,7 +1,6 @@
 -- `header::put_described` meets its contract: each piece behind the one before it.
-use Rattle.text.proofs.Pieces.{put_then}
+use Rattle.text.proofs.Adding.{adds_then}
 use Rattle.npy_header.proofs.header.put_described.Goals as goal
 
 pub returns : goal.returns
-returns c =
-    put_then (put_then c.put_named-first.ensures c.put_named-second.ensures) c.put_text.ensures
+returns c = adds_then (adds_then c.named.ensures c.named-2.ensures) c.text.ensures

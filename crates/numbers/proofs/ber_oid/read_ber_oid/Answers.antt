@@ -14,33 +14,33 @@ use Rattle.numbers.proofs.ber_oid.read_ber_oid.Goals.{After-wide-b}
 abbrev bytes_of : After-wide-b → List ℕ
 bytes_of c = c.args.bytes.now
 
-abbrev taken_of : After-wide-b → ℕ
-taken_of c = c.loop-taken.taken
+abbrev read_of : After-wide-b → ℕ
+read_of c = c.loop-i.i
 
 -- the value with the byte that was read
 spelled : (c : After-wide-b)
-    → c.loop-taken.value * 128 + c.wide-b.result % 128 ≡ oid_value (taken_of c + 1) (bytes_of c)
-spelled c = omega (arith, spelt-more 128 0 (bytes_of c) (taken_of c) (omega arith))
+    → c.loop-i.value * 128 + c.wide-b.result % 128 ≡ oid_value (read_of c + 1) (bytes_of c)
+spelled c = omega (arith, spelt-more 128 0 (bytes_of c) (read_of c) (omega arith))
 
 -- where its top bit is set
 more : (c : After-wide-b) → 128 ≤ c.wide-b.result
-    → continued (bytes_of c) ≡ taken_of c + 1 + continued (drop (taken_of c + 1) (bytes_of c))
-more c h = continued-more (bytes_of c) (taken_of c) (omega arith) (omega arith) (omega arith)
+    → continued (bytes_of c) ≡ read_of c + 1 + continued (drop (read_of c + 1) (bytes_of c))
+more c h = continued-more (bytes_of c) (read_of c) (omega arith) (omega arith) (omega arith)
 
 pub returns-then-value-gt4294967295 : goal.returns-then-value-gt4294967295
 returns-then-value-gt4294967295 c =
-    let w = (goal.at.returns-then-value-gt4294967295 c).After-wide-b in let least = spelt-take-le 128 (omega arith) 0 {j = taken_of w + 1} {k = suc (continued (bytes_of w))} (bytes_of w) (omega arith) in
+    let w = (goal.at.returns-then-value-gt4294967295 c).After-wide-b in let least = spelt-take-le 128 (omega arith) 0 {j = read_of w + 1} {k = suc (continued (bytes_of w))} (bytes_of w) (omega arith) in
     sym (none_is (bytes_of w) (λ a b h. omega (arith, spelled w)))
 
 pub returns-then-b-lt128 : goal.returns-then-b-lt128
 returns-then-b-lt128 c =
-    let w = (goal.at.returns-then-b-lt128 c).After-wide-b in let last = continued-last (bytes_of w) (taken_of w) (omega arith) (omega arith) (omega arith) in
-    let e : suc (continued (bytes_of w)) ≡ taken_of w + 1 = omega arith in
+    let w = (goal.at.returns-then-b-lt128 c).After-wide-b in let last = continued-last (bytes_of w) (read_of w) (omega arith) (omega arith) (omega arith) in
+    let e : suc (continued (bytes_of w)) ≡ read_of w + 1 = omega arith in
     rw (spelled w) (sym (read_is (bytes_of w) e (omega arith) (omega arith) (omega (arith, spelled w))))
 
-pub returns-then-taken-gt5 : goal.returns-then-taken-gt5
-returns-then-taken-gt5 c =
-    let w = (goal.at.returns-then-taken-gt5 c).After-wide-b in sym (none_is (bytes_of w) (λ a b h. omega (arith, more w (omega arith))))
+pub returns-then-i-ge5 : goal.returns-then-i-ge5
+returns-then-i-ge5 c =
+    let w = (goal.at.returns-then-i-ge5 c).After-wide-b in sym (none_is (bytes_of w) (λ a b h. omega (arith, more w (omega arith))))
 
 pub returns : goal.returns
 returns c = sym (none_is _ (λ a b h. omega arith))

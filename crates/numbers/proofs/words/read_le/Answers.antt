@@ -1,9 +1,13 @@
--- `words::read_le` meets its contract. The invariant: the value is what the bytes from `at` on spell, in 64 bits.
-use mathlib.Core.Path.{◌≡◌}
-use native.Mathlib.Omega.{arith}
-use Rattle.numbers.specs.Words.{low_word_of}
+-- `words::read_le` meets its contract.
+use mathlib.Core.Path.{◌∙◌}
+use Rattle.std.proofs.Common.{rules}
+use Rattle.std.proofs.lemmas.Iterator.Adapters.{YieldsList-from_rev_slice}
+use Rattle.std.proofs.lemmas.Iterator.Consumers.{fold_from_yields_List}
+use Rattle.numbers.specs.Words.{more}
+use Rattle.numbers.proofs.Read.{read-back}
 use Rattle.numbers.proofs.words.read_le.Goals as goal
 
 pub returns : goal.returns
-unfolding low_word_of
-returns c = let e : c.loop-at.at ≡ 0 = omega arith in rw e at c.loop-at.invariant.1
+returns c =
+    let bytes = c.args.bytes.now in
+    fold_from_yields_List _ more _ _ c.fold.ensures.ran (YieldsList-from_rev_slice bytes cc) (λ a x b q k. search rules) ∙ read-back bytes

@@ -8,15 +8,15 @@ use Rattle.answers.proofs.Lent.{front-none, front-more}
 use Rattle.numbers.proofs.Low.{length-low, low-at, low-left}
 use Rattle.numbers.proofs.words.write_le.Goals as goal
 
-pub loop-i-init : goal.loop-i-init
-loop-i-init c = (front-none (omega (arith, length-low (length c.args.part.now) c.args.value)), rw (pow-zero, div-one))
+pub loop-byte-init : goal.loop-byte-init
+loop-byte-init c = (front-none (omega (arith, length-low (length c.args.part.now) c.args.value)), rw (pow-zero, div-one))
 
-pub loop-i-preserved : goal.loop-i-preserved
-loop-i-preserved c =
-    let l = c.loop-i in
+pub loop-byte-preserved : goal.loop-byte-preserved
+loop-byte-preserved c =
+    let l = c.loop-byte in
     let k = length c.args.part.now in
     let v = c.args.value in
-    let h : l.i < k = omega (arith, l.invariant.0.long) in (
-      front-more l.invariant.0 (rw (length-low k v) h) (ap (λ (x : ℕ). x % 256) l.invariant.1 ∙ sym (low-at k v l.i h)),
-      ap (λ (x : ℕ). x / 256) l.invariant.1 ∙ sym (low-left v l.i),
+    let h : l.byte-index < k = omega (arith, l.invariant.0.long) in (
+      front-more l.invariant.0 (rw (length-low k v) h) (ap (λ (x : ℕ). x % 256) l.invariant.1 ∙ sym (low-at k v l.byte-index h)),
+      ap (λ (x : ℕ). x / 256) l.invariant.1 ∙ sym (low-left v l.byte-index),
     )

@@ -1,13 +1,13 @@
 -- `slot::put_slot` meets its contract: one piece behind the other.
-use Rattle.text.proofs.Pieces.{put_then}
+use Rattle.text.proofs.Adding.{adds_then}
 use Rattle.parts.proofs.slot.put_slot.Goals as goal
 
-pub returns-in-Absent : goal.returns-in-Absent
-returns-in-Absent c =
-    rw c.in-Absent.is
-    (put_then c.put_gap-apart.ensures (put_then (put_then c.put_text-named.ensures c.put_values-paired.ensures) c.put_text.ensures))
+pub returns-in-None : goal.returns-in-None
+returns-in-None c =
+    rw c.in-None.is
+    (adds_then c.put_gap.ensures (adds_then (adds_then c.text.ensures c.put_values.ensures) c.text-in-None.ensures))
 
-pub returns-in-At : goal.returns-in-At
-returns-in-At c =
-    rw c.in-At.is
-    (put_then c.put_gap-apart.ensures (put_then (put_then c.put_text-named.ensures c.put_values-paired-in-At.ensures) c.put_present.ensures))
+pub returns-in-Some : goal.returns-in-Some
+returns-in-Some c =
+    rw c.in-Some.is
+    (adds_then c.put_gap.ensures (adds_then (adds_then c.text.ensures c.put_values-in-Some.ensures) c.put_present.ensures))

@@ -10,10 +10,10 @@ use Rattle.plan.proofs.check.tally_of.Goals.{After-least_of-zeros}
 
 -- a turn's count
 more : (c : After-least_of-zeros)
-    → c.loop-k.zeros + c.least_of-zeros.result ≡ least_met c.args.correlations.now (c.loop-k.k + 1)
+    → c.loop-value.zeros + c.least_of-zeros.result ≡ least_met c.args.correlations.now (c.loop-value.value-index + 1)
 more c =
-    rw (add-one, c.least_of-zeros.ensures, c.raised-high.ensures, c.loop-k.invariant.2)
+    rw (add-one, c.least_of-zeros.ensures, c.raised-high.ensures, c.loop-value.invariant.1)
 
 pub overflow_add-zeros : goal.overflow_add-zeros
 overflow_add-zeros c =
-    omega (arith, more c, least-le c.args.correlations.now (c.loop-k.k + 1))
+    omega (arith, more c, least-le c.args.correlations.now (c.loop-value.value-index + 1))

@@ -30,7 +30,7 @@ returns-in_default c =
 pub loop-i-preserved : goal.loop-i-preserved
 loop-i-preserved c =
     let w = (goal.at.loop-i-preserved c).In-loop-i in let s = (goal.at.loop-i-preserved c).Start in let l = w.loop-i in
-    let x = turn-value (turn w) c.deviation_of-number.ensures c.in-Bits.is in
+    let x = turn-value (turn w) c.deviation_of-number.ensures c.in-Ok.is in
     (tab-more s.args.count (deviation s) l.invariant.0 w.loop-i-test.true x, (turn w).on)
 
 pub returns : goal.returns

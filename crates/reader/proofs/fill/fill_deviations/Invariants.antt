@@ -1,5 +1,5 @@
 use mathlib.Core.Path.{◌≡◌}
-use Prim.Native.Nat.{◌+◌, ◌-◌, ◌*◌}
+use Prim.Native.Nat.{◌+◌, ◌*◌}
 use Rattle.answers.specs.Lent.{tab}
 use Rattle.answers.proofs.Lent.{Front}
 use Rattle.deviations.specs.Form.{form_listed}
@@ -8,6 +8,3 @@ use Rattle.reader.proofs.fill.fill_deviations.Given as goal
 
 abbrev pub invariant-loop-i : goal.invariant-loop-i
 invariant-loop-i l = Front (tab l.count (form_in l.bytes l.at l.control (form_listed l.form))) l.initial.out l.i l.out × (l.next ≡ l.at + l.i * l.control.slen)
-
-abbrev pub decreases-loop-i : goal.decreases-loop-i
-decreases-loop-i l = l.count - l.i

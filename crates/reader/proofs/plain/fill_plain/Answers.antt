@@ -39,7 +39,7 @@ pub loop-k-preserved : goal.loop-k-preserved
 loop-k-preserved c =
     let d = (goal.at.loop-k-preserved c).After-slot_at-read in let s = (goal.at.loop-k-preserved c).Start in let a = s.args in
     let l = d.loop-k in
-    let x = found-one (sym (ap slot_listed c.in-Done.is) ∙ read d) in (
+    let x = found-one (sym (ap slot_listed c.in-Ok.is) ∙ read d) in (
       tab-more a.slots (correlation s) l.invariant.0 d.loop-k-test.true (ap (λ (v : Slot). v.bits) x),
       tab-more a.slots (state s) l.invariant.1 d.loop-k-test.true (ap (λ (v : Slot). v.state) x),
       elim c.if-present.branch [

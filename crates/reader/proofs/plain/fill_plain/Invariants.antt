@@ -1,5 +1,4 @@
 use mathlib.Core.Path.{◌≡◌}
-use Prim.Native.Nat.{◌-◌}
 use Rattle.answers.specs.Lent.{tab}
 use Rattle.answers.proofs.Lent.{Front}
 use Rattle.elements.specs.Elements.{slot_in}
@@ -10,6 +9,3 @@ abbrev pub invariant-loop-k : goal.invariant-loop-k
 invariant-loop-k l = Front (tab l.slots (λ j. (slot_in l.bytes l.vector l.codes l.control j).bits)) l.initial.correlations l.k l.correlations
     × Front (tab l.slots (λ j. (slot_in l.bytes l.vector l.codes l.control j).state)) l.initial.states l.k l.states
     × (l.next ≡ code_at l.bytes l.vector l.codes l.control l.k)
-
-abbrev pub decreases-loop-k : goal.decreases-loop-k
-decreases-loop-k l = l.slots - l.k

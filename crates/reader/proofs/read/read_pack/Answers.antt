@@ -1,34 +1,25 @@
 -- `read::read_pack` meets its contract: the rules and the slots, and then the deviations.
-use mathlib.Core.Path.{◌≡◌, sym, ap, ◌∙◌}
-use lib.ListN.{length}
-use Rattle.answers.specs.Outcome.{found}
-use Rattle.deviations.specs.Form.{form_listed}
-use Rattle.rules.specs.Decided.{ready, decided_listed}
-use Rattle.codes.specs.Store.{store_ready}
+use Rattle.std.proofs.lemmas.Result.{err_from_is_err_and}
 use Rattle.reader.proofs.Whole.{kept, deviations-there, stored}
 use Rattle.reader.proofs.read.read_pack.Goals as goal
-use Rattle.reader.proofs.read.read_pack.Goals.{In-Pack}
-
-was-open : (c : In-Pack) → found (ready c.in-Pack.places (form_listed c.in-Pack.form))
-    ≡ store_ready c.args.range c.args.bytes.now (length c.args.deviations.now) (length c.args.correlations.now) (length c.args.states.now)
-was-open c = sym (ap decided_listed c.in-Pack.is) ∙ c.store_slots-stored.ensures.0
 
 pub fill_deviations-requires : goal.fill_deviations-requires
 fill_deviations-requires c =
-    let o = (goal.at.fill_deviations-requires c).In-Pack in let a = o.args in
-    let l = o.store_slots-stored.ensures in
-    rw c.pack_of-pack.ensures
-    (deviations-there a.range a.bytes.now a.deviations.now a.correlations.now a.states.now l.1 l.2 (was-open o))
-
-pub returns-in-Refused : goal.returns-in-Refused
-returns-in-Refused c =
     let a = c.args in
-    let l = c.store_slots-stored.ensures in
-    kept a.range a.bytes.now a.deviations.now a.correlations.now a.states.now l.1 l.2 c.in-Refused.refusal (sym (ap decided_listed c.in-Refused.is) ∙ l.0)
+    let l = c.in_ok-decided.ensures in
+    rw c.pack_of-pack.ensures
+    (deviations-there a.range a.bytes.now a.deviations.now a.correlations.now a.states.now l.1 l.2 l.0)
 
-pub returns-in-Pack : goal.returns-in-Pack
-returns-in-Pack c =
-    let o = (goal.at.returns-in-Pack c).In-Pack in let a = o.args in
-    let l = o.store_slots-stored.ensures in
+pub returns-in_err-decided : goal.returns-in_err-decided
+returns-in_err-decided c =
+    let a = c.args in
+    let l = c.in_err-decided.ensures in
+    let e = err_from_is_err_and c.from_residual.result c.from_residual.ensures.1 in
+    rw (e.1, e.2) (kept a.range a.bytes.now a.deviations.now a.correlations.now a.states.now l.1 l.2 c.in_err-decided.field-0.0 l.0)
+
+pub returns : goal.returns
+returns c =
+    let a = c.args in
+    let l = c.in_ok-decided.ensures in
     let e = c.pack_of-pack.ensures in
-    stored a.range a.bytes.now a.deviations.now a.correlations.now a.states.now l.1 l.2 (was-open o) e (rw e at c.fill_deviations.ensures)
+    stored a.range a.bytes.now a.deviations.now a.correlations.now a.states.now l.1 l.2 l.0 e (rw e at c.fill_deviations.ensures)

@@ -5,22 +5,17 @@ use mathlib.Core.Path.{refl, sym, ◌∙◌}
 use borrow.Author.Tests.{eq-eqb, ne_eqb}
 use lib.ListN.{drop_of_length-le}
 use Rattle.text.proofs.Forms.{spread_end, spread-more}
-use Rattle.text.proofs.Pieces.{rest_all, rest_more, rest-done}
-use Rattle.reasons.specs.Sentences.{sentence_of, letter_of, is_end, text_of, sentence_text}
+use Rattle.text.proofs.Adding.{owes-more, owes-done}
+use Rattle.reasons.specs.Sentences.{sentence_of, letter_of, is_end, text_of}
 use Rattle.reasons.proofs.Rows.{sentence-short}
 use Rattle.reasons.proofs.sentence.put_sentence.Goals as goal
-
-pub loop-i-init : goal.loop-i-init
-loop-i-init c =
-    let a = c.args in
-    rest_all (sentence_text a.sentence a.facts) a.at a.out.now c.within-next.ensures.value
 
 pub returns-then-letter-eq124 : goal.returns-then-letter-eq124
 returns-then-letter-eq124 c =
     let p = c.loop-i in
     let a = c.args in
     let done = eq-eqb (letter_of a.sentence p.i) 0x7c (sym c.letter-letter.ensures ∙ c.if-letter-eq124.true) in
-    rest-done (rw (spread_end is_end (text_of a.facts) refl (sentence_of a.sentence) p.i done) at p.invariant)
+    owes-done (rw (spread_end is_end (text_of a.facts) refl (sentence_of a.sentence) p.i done) at p.invariant)
 
 pub loop-i-preserved : goal.loop-i-preserved
 loop-i-preserved c =
@@ -28,11 +23,11 @@ loop-i-preserved c =
     let a = c.args in
     let more = ne_eqb (letter_of a.sentence p.i) 0x7c (λ e. c.if-letter-eq124.false (c.letter-letter.ensures ∙ e)) in
     rw add-one
-    (rest_more (rw (spread-more is_end (text_of a.facts) refl (sentence_of a.sentence) p.i more) at p.invariant)
-    (rw (c.value.ensures, c.letter-letter.ensures) at c.put_letter-next.ensures))
+    (owes-more (rw (spread-more is_end (text_of a.facts) refl (sentence_of a.sentence) p.i more) at p.invariant)
+    (rw (c.value.ensures, c.letter-letter.ensures) at c.put_letter.ensures))
 
 pub returns : goal.returns
 returns c =
     let p = c.loop-i in
     let sentence = c.args.sentence in
-    rest-done (rw (drop_of_length-le (sentence_of sentence) {i = p.i} (omega (arith, sentence-short sentence))) at p.invariant)
+    owes-done (rw (drop_of_length-le (sentence_of sentence) {i = p.i} (omega (arith, sentence-short sentence))) at p.invariant)

@@ -1,13 +1,9 @@
-use Prim.Native.Nat.{◌-◌}
 use lib.ListN.{drop}
 use Rattle.text.specs.Forms.{spread}
-use Rattle.text.proofs.Pieces.{Rest}
+use Rattle.text.proofs.Adding.{Owes}
 use Rattle.replies.specs.Forms.{form_of}
 use Rattle.replies.specs.ReplyText.{text_of, is_end, reply_text}
 use Rattle.replies.proofs.put.put_reply.Given as goal
 
 abbrev pub invariant-loop-i : goal.invariant-loop-i
-invariant-loop-i l = Rest (spread is_end (text_of l.reply) (drop l.i (form_of l.reply.form))) l.next l.out (reply_text l.reply) l.at l.initial.out
-
-abbrev pub decreases-loop-i : goal.decreases-loop-i
-decreases-loop-i l = 24 - l.i
+invariant-loop-i l = Owes (spread is_end (text_of l.reply) (drop l.i (form_of l.reply.form))) l.page (reply_text l.reply) l.initial.page

@@ -11,8 +11,8 @@ lent c = record { meets = c.decode_sdcc_flp-read.ensures }
 
 pub put_pack-requires : goal.put_pack-requires
 put_pack-requires c =
-    let v = (goal.at.put_pack-requires c).After-decode_sdcc_flp-read in held (lent v) c.in-Done.is (omega arith) (omega arith) (omega arith)
+    let v = (goal.at.put_pack-requires c).After-decode_sdcc_flp-read in held (lent v) c.in-Ok.is (omega arith) (omega arith) (omega arith)
 
-pub returns-in-Done : goal.returns-in-Done
-returns-in-Done c =
-    let u = (goal.at.returns-in-Done c).After-decode_sdcc_flp-read in (rw (pack-lines (lent u) c.in-Done.is) at c.put_pack.ensures, left (lent u))
+pub returns-in-Ok : goal.returns-in-Ok
+returns-in-Ok c =
+    let u = (goal.at.returns-in-Ok c).After-decode_sdcc_flp-read in (rw (pack-lines (lent u) c.in-Ok.is) at c.put_pack.ensures, left (lent u))

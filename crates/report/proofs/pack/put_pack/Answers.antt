@@ -1,7 +1,7 @@
 -- `pack::put_pack` meets its contract: one piece behind the other.
 use native.Mathlib.Omega.{arith}
 use lib.Seq.{length-take-le}
-use Rattle.text.proofs.Pieces.{put_then}
+use Rattle.text.proofs.Adding.{adds_then}
 use Rattle.report.proofs.Slots.{slots-front}
 use Rattle.report.proofs.pack.put_pack.Goals as goal
 
@@ -11,4 +11,4 @@ returns c =
     let d = length-take-le p.deviations c.args.deviations.now c.requires.1 in
     let m = length-take-le p.slots c.args.correlations.now c.requires.2 in
     rw (m, slots-front p.matrix_size p.slots c.args.correlations.now c.args.states.now (omega (arith, c.requires.0)))
-    (put_then (put_then (rw (← d) at c.put_counts-counted.ensures) c.put_rows-rowed.ensures) c.put_slots.ensures)
+    (adds_then (adds_then (rw (← d) at c.put_counts.ensures) c.put_rows.ensures) c.put_slots.ensures)

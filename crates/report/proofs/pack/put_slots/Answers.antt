@@ -1,10 +1,11 @@
 -- `pack::put_slots` meets its contract: each turn puts the next row's lines behind those before it.
-use mathlib.Core.Path.{◌≡◌, refl, sym, ap, ◌∙◌}
+use mathlib.Core.Path.{◌≡◌, sym, ap, ◌∙◌}
 use Prim.Native.Nat.{ℕ, ◌+◌, ◌-◌}
+use native.Mathlib.Numerals.{add-one}
 use native.Mathlib.Omega.{arith}
 use Rattle.layout.specs.Triangle.{slot_of}
 use Rattle.layout.proofs.RowByRow.{row_first, row_next, row_within}
-use Rattle.text.proofs.Pieces.{puts_none, puts-more}
+use Rattle.text.proofs.Adding.{adds_none, adds_then}
 use Rattle.report.proofs.pack.put_slots.Goals as goal
 use Rattle.report.proofs.pack.put_slots.Goals.{In-loop-i}
 
@@ -16,7 +17,7 @@ carried c =
     ap (λ (x : ℕ). x + (n - 1 - c.loop-i.i)) c.loop-i.invariant.1 ∙ sym (row_next n c.loop-i.i c.loop-i-test.true)
 
 pub loop-i-init : goal.loop-i-init
-loop-i-init c = (puts_none refl c.within-next.ensures.value, sym (row_first c.args.rows))
+loop-i-init c = (adds_none c.args.page.now, sym (row_first c.args.rows))
 
 pub overflow_add-first : goal.overflow_add-first
 overflow_add-first c =
@@ -25,4 +26,4 @@ overflow_add-first c =
 
 pub loop-i-preserved : goal.loop-i-preserved
 loop-i-preserved c =
-    let t = (goal.at.loop-i-preserved c).In-loop-i in (puts-more t.loop-i.invariant.0 t.loop-i-test.true refl c.put_row-next.ensures, carried t)
+    let t = (goal.at.loop-i-preserved c).In-loop-i in (rw add-one (adds_then t.loop-i.invariant.0 c.put_row.ensures), carried t)

@@ -1,5 +1,7 @@
 -- `print::print_pack` meets its contract: there is room for any text, or nothing is stored.
 use native.Mathlib.Omega.{arith}
+use Rattle.std.proofs.Common.{rules}
+use Rattle.text.proofs.Adding.{put_opened}
 use Rattle.lines.proofs.Printed.{print-whole}
 use Rattle.report.specs.Printed.{room, printed}
 use Rattle.report.proofs.Done.{printed-fits}
@@ -8,4 +10,5 @@ use Rattle.report.proofs.print.print_pack.Goals as goal
 pub returns : goal.returns
 returns c =
     let a = c.args in
-    print-whole room (printed a.bytes.now) a.out.now (omega arith) (printed-fits a.bytes.now) c.put_printed.ensures
+    print-whole room (printed a.bytes.now) a.out.now (omega arith) (printed-fits a.bytes.now)
+    (put_opened c.new-page.ensures c.put_printed.ensures c.place.ensures (search rules))

@@ -6,9 +6,9 @@ use Rattle.report.proofs.print.put_printed.Goals as goal
 pub returns-then-is_too_big : goal.returns-then-is_too_big
 unfolding printed
 returns-then-is_too_big c =
-    rw (sym c.is_too_big.ensures ∙ c.if-is_too_big.true) c.put_text.ensures
+    rw (sym c.is_too_big.ensures ∙ c.if-is_too_big.true) c.text.ensures
 
-pub returns : goal.returns
+pub returns-else-is_too_big : goal.returns-else-is_too_big
 unfolding printed
-returns c =
+returns-else-is_too_big c =
     rw (sym c.is_too_big.ensures ∙ c.if-is_too_big.false) c.put_read.ensures

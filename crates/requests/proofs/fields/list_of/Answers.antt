@@ -6,30 +6,30 @@ use lib.ListN.{length}
 use Rattle.requests.specs.Fields.{part_of, list_of, words_of}
 use Rattle.requests.proofs.Parts.{part-ordered, part-listed}
 use Rattle.requests.proofs.fields.list_of.Goals as goal
-use Rattle.requests.proofs.fields.list_of.Goals.{After-within_words-end}
+use Rattle.requests.proofs.fields.list_of.Goals.{After-within-end}
 
 -- where the part starts, and where it ends
-start : (c : After-within_words-end) → let a = c.args in
-    c.within_words-start.result ≡ min (part_of a.letter).start (length a.words.now)
-start c = rw c.part_of-part.ensures at c.within_words-start.ensures.value
+start : (c : After-within-end) → let a = c.args in
+    c.within-start.result ≡ min (part_of a.letter).start (length a.words.now)
+start c = rw c.part_of-part.ensures at c.within-start.ensures.value
 
-end : (c : After-within_words-end) → let a = c.args in
-    c.within_words-end.result ≡ min (part_of a.letter).end (length a.words.now)
-end c = rw c.part_of-part.ensures at c.within_words-end.ensures.value
+end : (c : After-within-end) → let a = c.args in
+    c.within-end.result ≡ min (part_of a.letter).end (length a.words.now)
+end c = rw c.part_of-part.ensures at c.within-end.ensures.value
 
-ordered : (c : After-within_words-end) → c.within_words-start.result ≤ c.within_words-end.result
+ordered : (c : After-within-end) → c.within-start.result ≤ c.within-end.result
 ordered c = omega (arith, start c, end c, part-ordered c.args.letter)
 
 pub slice_bounds-list-count : goal.slice_bounds-list-count
-slice_bounds-list-count c = ordered (goal.at.slice_bounds-list-count c).After-within_words-end
+slice_bounds-list-count c = ordered (goal.at.slice_bounds-list-count c).After-within-end
 
 pub slice_bounds-list-start : goal.slice_bounds-list-start
-slice_bounds-list-start c = ordered (goal.at.slice_bounds-list-start c).After-within_words-end
+slice_bounds-list-start c = ordered (goal.at.slice_bounds-list-start c).After-within-end
 
 pub returns-clause-value : goal.returns-clause-value
 unfolding list_of words_of
 returns-clause-value c =
-    let w = (goal.at.returns-clause-value c).After-within_words-end in
+    let w = (goal.at.returns-clause-value c).After-within-end in
     let a = c.args in
     let stored = rw w.part_of-part.ensures at c.list.ensures.value in
     let left = rw w.part_of-part.ensures at c.list.ensures.room_after in
@@ -38,7 +38,7 @@ returns-clause-value c =
 pub returns-clause-words_after : goal.returns-clause-words_after
 unfolding list_of words_of
 returns-clause-words_after c =
-    let w = (goal.at.returns-clause-words_after c).After-within_words-end in
+    let w = (goal.at.returns-clause-words_after c).After-within-end in
     let a = c.args in
     let stored = rw w.part_of-part.ensures at c.list.ensures.value in
     let left = rw w.part_of-part.ensures at c.list.ensures.room_after in

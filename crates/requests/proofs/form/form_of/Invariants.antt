@@ -6,6 +6,3 @@ use Rattle.requests.proofs.form.form_of.Given as goal
 
 abbrev pub invariant-loop-form : goal.invariant-loop-form
 invariant-loop-form l = (l.form ≤ bad_request) × (first_from (bad_request - l.form) l.form l.line ≡ form_of l.line)
-
-abbrev pub decreases-loop-form : goal.decreases-loop-form
-decreases-loop-form l = bad_request - l.form

@@ -7,6 +7,6 @@ loop-i-init c = reading-none c.form_of-form.ensures c.unfilled-request.ensures
 
 pub loop-i-preserved : goal.loop-i-preserved
 loop-i-preserved c =
-    let f = c.field-read.ensures in
+    let f = c.field.ensures in
     reading-more c.loop-i.invariant c.loop-i-test.true c.letter-letter.ensures (f.value, (f.line_after, f.words_after))
-    c.in-Read.is c.with-request.ensures c.field-read.auto.line c.field-read.auto.words
+    c.in-Some.is c.with-request.ensures c.field.auto.line c.field.auto.words

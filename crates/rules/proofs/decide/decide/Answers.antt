@@ -1,38 +1,37 @@
 -- `decide::decide` meets its contract.
 use mathlib.Core.Path.{◌≡◌, sym, ap}
+use Rattle.std.proofs.lemmas.Result.{err_from_is_err_and}
 use Rattle.answers.specs.Table.{Answer}
-use Rattle.layout.specs.Size.{fit_ruled}
-use Rattle.elements.specs.Listed.{pack, verdict}
 use Rattle.elements.proofs.Opened.{opened-placed}
 use Rattle.deviations.specs.Range.{lent_rule}
 use Rattle.rules.proofs.Verdict.{early, later, all_pass}
 use Rattle.rules.proofs.decide.decide.Goals as goal
-use Rattle.rules.proofs.decide.decide.Goals.{In-Pack, In_default}
+use Rattle.rules.proofs.decide.decide.Goals.{In_ok-check_deviation_range}
 
 -- the range was not refused
-lent : (c : In_default) → (lent_rule c.args.range).number ≡ 0
-lent c = sym (ap (λ (x : Answer). x.number) (rw c.in_default.is at c.check_deviation_range.ensures))
+lent : (c : In_ok-check_deviation_range) → (lent_rule c.args.range).number ≡ 0
+lent c = sym (ap (λ (x : Answer). x.number) c.in_ok-check_deviation_range.ensures)
 
--- the pack that was opened
-was-open : (c : In-Pack) → let b = c.args.bytes.now in pack c.in-Pack.places ≡ verdict b (fit_ruled b)
-was-open c = rw c.in-Pack.is at c.open_pack.ensures
+pub returns-in_err-places : goal.returns-in_err-places
+returns-in_err-places c =
+    let e = err_from_is_err_and c.from_residual-in_err-places.result c.from_residual-in_err-places.ensures.1 in
+    rw (e.1, e.2)
+    (early c.args.range c.args.bytes.now (lent (goal.at.returns-in_err-places c).In_ok-check_deviation_range)
+    c.in_err-places.field-0.0.refusal c.in_err-places.ensures)
 
-pub elements_whole-requires : goal.elements_whole-requires
-elements_whole-requires c = opened-placed c.args.bytes.now (was-open (goal.at.elements_whole-requires c).In-Pack)
+pub invariant_of-opened : goal.invariant_of-opened
+invariant_of-opened c = record { placed = opened-placed c.args.bytes.now c.in_ok-places.ensures }
 
-pub returns-in-Refused-elements_whole : goal.returns-in-Refused-elements_whole
-returns-in-Refused-elements_whole c =
-    let p = (goal.at.returns-in-Refused-elements_whole c).In-Pack in let t = (goal.at.returns-in-Refused-elements_whole c).In_default in let a = t.args in
-    later a.range a.bytes.now (lent t) (was-open p) c.in-Refused-elements_whole.refusal
-    (rw (c.in-Refused-elements_whole.is, c.deviation_form-form.ensures) at c.elements_whole.ensures)
-
-pub returns-in-Refused-open_pack : goal.returns-in-Refused-open_pack
-returns-in-Refused-open_pack c =
+pub returns-in_err-elements_whole : goal.returns-in_err-elements_whole
+returns-in_err-elements_whole c =
     let a = c.args in
-    early a.range a.bytes.now (lent (goal.at.returns-in-Refused-open_pack c).In_default) c.in-Refused-open_pack.refusal (rw c.in-Refused-open_pack.is at c.open_pack.ensures)
+    let e = err_from_is_err_and c.from_residual-in_err-elements_whole.result c.from_residual-in_err-elements_whole.ensures.1 in
+    rw (e.1, e.2)
+    (later a.range a.bytes.now (lent (goal.at.returns-in_err-elements_whole c).In_ok-check_deviation_range) c.in_ok-places.ensures
+    c.in_err-elements_whole.field-0.0.refusal (rw c.deviation_form-form.ensures at c.in_err-elements_whole.ensures))
 
-pub returns-in_default-elements_whole : goal.returns-in_default-elements_whole
-returns-in_default-elements_whole c =
-    let p = (goal.at.returns-in_default-elements_whole c).In-Pack in let t = (goal.at.returns-in_default-elements_whole c).In_default in let a = t.args in
-    all_pass a.range a.bytes.now (lent t) (was-open p) _ c.deviation_form-form.ensures
-    (rw (c.in_default-elements_whole.is, c.deviation_form-form.ensures) at c.elements_whole.ensures)
+pub returns : goal.returns
+returns c =
+    let a = c.args in
+    all_pass a.range a.bytes.now (lent (goal.at.returns c).In_ok-check_deviation_range) c.in_ok-places.ensures _ c.deviation_form-form.ensures
+    (rw c.deviation_form-form.ensures at c.in_ok-elements_whole.ensures)

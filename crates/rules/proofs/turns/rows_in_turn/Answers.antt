@@ -1,11 +1,11 @@
 -- `turns::rows_in_turn` meets its contract: the rows before have passed.
-use mathlib.Core.Path.{◌∙◌}
+use Rattle.std.proofs.lemmas.Result.{err_from_is_err_and}
 use Rattle.rules.proofs.Rows.{row-stops}
 use Rattle.rules.proofs.turns.rows_in_turn.Goals as goal
 
-pub returns-in_default : goal.returns-in_default
-returns-in_default c =
+pub returns-in_err-deviation_in : goal.returns-in_err-deviation_in
+returns-in_err-deviation_in c =
     let a = c.args in
-    c.check_number.ensures
-    ∙ rw c.in_default.is
-    (row-stops a.bytes.now a.at a.control a.form c.loop-row.row c.loop-row.invariant.2 (rw c.loop-row.invariant.0 at c.deviation_in-number.ensures) c.in_default.is a.count c.loop-row-test.true)
+    let p = err_from_is_err_and c.from_residual.result c.from_residual.ensures.1 in
+    rw (p.1, p.2)
+    (row-stops a.bytes.now a.at a.control a.form c.loop-row.row c.loop-row.invariant.1 c.in_err-deviation_in.field-0.0 (rw c.loop-row.invariant.0 at c.in_err-deviation_in.ensures) a.count c.loop-row-test.true)

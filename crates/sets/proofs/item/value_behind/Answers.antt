@@ -5,40 +5,32 @@ use native.Mathlib.Omega.{arith}
 use borrow.Author.Tests.{le-ltb}
 use borrow.Author.Rules.{part_to_end}
 use lib.ListN.{length, drop, length-drop}
-use Rattle.numbers.specs.declared.ber.BerLength.TheVariants.{Read}
+use Rattle.std.specs.Prelude.{Some}
 use Rattle.numbers.specs.Ber.{ber_read_strict}
 use Rattle.numbers.proofs.Lengths.{ber-within}
 use Rattle.sets.proofs.item.value_behind.Goals as goal
-use Rattle.sets.proofs.item.value_behind.Goals.{After-read_ber_strict-count, In-Read, Start}
-
--- what stands behind the tag
-abbrev start : After-read_ber_strict-count → Start
-start c = c.before.before.before.before
-
-read : (c : After-read_ber_strict-count) → c.read_ber_strict-count.result ≡ ber_read_strict (drop (start c).args.at (start c).args.set.now)
-read c = c.read_ber_strict-count.ensures ∙ ap ber_read_strict (part_to_end (start c).args.set.now (start c).args.at)
+use Rattle.sets.proofs.item.value_behind.Goals.{In_ok-length}
 
 -- a length that was read
-known : (c : In-Read) → let a = (start (goal.at.overflow_add-start c).After-read_ber_strict-count).args in
-    Read c.in-Read.value c.in-Read.taken ≡ ber_read_strict (drop a.at a.set.now)
-known c = sym c.in-Read.is ∙ read (goal.at.overflow_add-start c).After-read_ber_strict-count
+known : (c : In_ok-length) → Some c.in_ok-length.length ≡ ber_read_strict (drop c.args.at c.args.set.now)
+known c = sym c.in_ok-length.was ∙ c.read_ber_strict.ensures ∙ ap ber_read_strict (part_to_end c.args.set.now c.args.at)
 
-within : (c : In-Read) → let a = (start (goal.at.overflow_add-start c).After-read_ber_strict-count).args in a.at + c.in-Read.taken ≤ length a.set.now
+within : (c : In_ok-length) → c.args.at + c.in_ok-length.length.taken ≤ length c.args.set.now
 within c =
-    let a = (start (goal.at.overflow_add-start c).After-read_ber_strict-count).args in
-    let b = ber-within (drop a.at a.set.now) (known c) in
-    omega (arith, b.1, length-drop a.at a.set.now, (start (goal.at.overflow_add-start c).After-read_ber_strict-count).requires)
+    let a = c.args in
+    omega (arith, (ber-within (drop a.at a.set.now) (known c)).1, length-drop a.at a.set.now, c.requires)
 
 pub overflow_add-start : goal.overflow_add-start
-overflow_add-start c = omega (arith, within c)
+overflow_add-start c = omega (arith, within (goal.at.overflow_add-start c).In_ok-length)
 
 pub overflow_sub-set : goal.overflow_sub-set
-overflow_sub-set c = omega (arith, within c)
+overflow_sub-set c = omega (arith, within (goal.at.overflow_sub-set c).In_ok-length)
 
 pub overflow_add-result : goal.overflow_add-result
-overflow_add-result c = omega (arith, within (goal.at.overflow_add-result c).In-Read)
+overflow_add-result c = omega (arith, within (goal.at.overflow_add-result c).In_ok-length)
 
 pub returns : goal.returns
 returns c =
-    let k = (goal.at.returns c).In-Read in let a = (start (goal.at.returns c).After-read_ber_strict-count).args in
-    rw (← (known k), le-ltb (length a.set.now) (a.at + k.in-Read.taken + k.in-Read.value) (omega (arith, within k)))
+    let k = (goal.at.returns c).In_ok-length in
+    let l = k.in_ok-length.length in
+    rw (← (known k), le-ltb (length c.args.set.now) (c.args.at + l.taken + l.value) (omega (arith, within k)))

@@ -1,8 +1,7 @@
 -- `bytes::put_bytes` meets its contract: each turn puts the next byte behind those before it.
-use mathlib.Core.Path.{refl}
-use Rattle.text.proofs.Pieces.{puts-more}
+use native.Mathlib.Numerals.{add-one}
+use Rattle.text.proofs.Adding.{adds_then}
 use Rattle.shown.proofs.bytes.put_bytes.Goals as goal
 
-pub loop-i-preserved : goal.loop-i-preserved
-loop-i-preserved c =
-    puts-more c.loop-i.invariant c.loop-i-test.true refl c.put_shown-next.ensures
+pub loop-byte-preserved : goal.loop-byte-preserved
+loop-byte-preserved c = rw add-one (adds_then c.loop-byte.invariant c.put_shown.ensures)

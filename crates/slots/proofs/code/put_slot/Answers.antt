@@ -5,5 +5,5 @@ use Rattle.slots.proofs.code.put_slot.Goals as goal
 
 pub returns : goal.returns
 returns c =
-    let v = code-value c.args.clen c.args.value c.requires.0 c.requires.1 c.imapb_code-code.ensures c.in-Of.is in
+    let v = code-value c.args.clen c.args.value c.requires.0 c.requires.1 c.imapb_code.ensures c.in-Some.is in
     part-written c.args.out.now c.args.at c.args.clen c.requires.2 v c.write_be.ensures

@@ -1,15 +1,14 @@
--- `marks::mark` meets its contract: each turn marks the next entry.
-use mathlib.Core.Path.{refl}
+-- `marks::mark` meets its contract.
 use native.Mathlib.Omega.{arith}
-use lib.ListN.{length}
-use Rattle.answers.proofs.Tab.{tab-none, tab-more}
-use Rattle.text.specs.Marks.{byte_mark}
+use Rattle.text.proofs.Marked.{clonable, filled}
 use Rattle.text.proofs.marks.mark.Goals as goal
 
-pub loop-i-init : goal.loop-i-init
-loop-i-init c = tab-none (length c.args.lent.now) (λ _. byte_mark) (omega arith)
+pub fill-requires : goal.fill-requires
+fill-requires g c = clonable g.T.Clone.is_infallible g.T.Clone.is_clone c.MARK.ensures g.met.T.Marked.cloned
 
-pub loop-i-preserved : goal.loop-i-preserved
-loop-i-preserved c =
-    let p = c.loop-i.invariant in
-    tab-more (length c.args.lent.now) (λ _. byte_mark) p (omega (arith, p.long)) refl
+pub returns : goal.returns
+returns g c =
+    let t = g.T.Clone in
+    let end = c.within-end in
+    rw (← end.ensures.value)
+    (filled t.is_infallible t.is_clone c.MARK.ensures g.met.T.Marked.cloned end.result c.args.lent.now (omega arith) c.fill.ensures.after)

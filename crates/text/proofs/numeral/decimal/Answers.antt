@@ -1,30 +1,46 @@
 -- `numeral::decimal` meets its contract. The invariant: what is left of the line, behind the value, reads as all of it.
-use mathlib.Core.Path.{◌≡◌}
-use mathlib.Core.Bool.{true}
+use mathlib.Core.Path.{◌≡◌, sym, ◌∙◌}
+use Prim.Native.Nat.{◌+◌, ◌*◌}
 use native.Mathlib.Omega.{arith}
-use borrow.Author.Tests.{lt-ltb}
-use lib.Dec.{ltb}
-use Rattle.text.specs.Numeral.{digit_at}
-use Rattle.text.proofs.Line.{reading-within, reading-over, reading-more}
+use Rattle.std.specs.Prelude.{Some}
+use Rattle.text.specs.Numeral.{digit_at, in_decimal}
+use Rattle.text.proofs.Line.{reading-first, decimal-within, reading-over, reading-more}
 use Rattle.text.proofs.numeral.decimal.Goals as goal
-use Rattle.text.proofs.numeral.decimal.Goals.{Else-d-gt9}
+use Rattle.text.proofs.numeral.decimal.Goals.{In-Some}
 
--- past the first test there is a digit
-some : (c : Else-d-gt9)
-    → ltb (digit_at c.args.line.now c.args.at) 10 ≡ true
-some c =
-    let a = c.args in
-    lt-ltb (digit_at a.line.now a.at) 10 (omega (arith, c.digit_at-d.ensures))
-
-pub returns-then-d-value : goal.returns-then-d-value
-returns-then-d-value c =
-    rw (some (goal.at.returns-then-d-value c).Else-d-gt9) (reading-over c.loop-d.invariant (omega arith) (omega arith))
+-- the digit of a turn
+digit_is : (c : In-Some) → in_decimal (digit_at c.args.line.now c.loop-digit.next) ≡ Some c.in-Some.digit
+digit_is c = sym c.decimal_digit_at-in-loop-digit.ensures ∙ c.in-Some.is
 
 pub overflow_add-next : goal.overflow_add-next
-overflow_add-next c = omega (arith, reading-within c.loop-d.invariant (omega arith))
+overflow_add-next c =
+    let a = c.args in
+    omega (arith, decimal-within a.line.now a.at (sym c.decimal_digit_at.ensures ∙ c.in_ok-value.was))
 
-pub loop-d-smaller : goal.loop-d-smaller
-loop-d-smaller c = omega (arith, reading-within c.loop-d.invariant (omega arith))
+pub loop-digit-init : goal.loop-digit-init
+loop-digit-init c = reading-first (sym c.decimal_digit_at.ensures ∙ c.in_ok-value.was)
 
-pub loop-d-preserved : goal.loop-d-preserved
-loop-d-preserved c = reading-more c.loop-d.invariant (omega arith) (omega arith) c.digit_at-d-in-loop-d.ensures
+pub returns-in_err-checked_mul : goal.returns-in_err-checked_mul
+returns-in_err-checked_mul c =
+    c.from_residual-in_err-checked_mul.ensures
+    ∙ reading-over c.loop-digit.invariant (digit_is (goal.at.returns-in_err-checked_mul c).In-Some) (omega (arith, c.in_err-checked_mul.ensures))
+
+pub returns-in_err-value-2 : goal.returns-in_err-value-2
+returns-in_err-value-2 c =
+    c.from_residual-in_err-value-2.ensures
+    ∙ reading-over c.loop-digit.invariant (digit_is (goal.at.returns-in_err-value-2 c).In-Some)
+    (omega (arith, c.in_ok-checked_mul.ensures, c.in_err-value-2.ensures))
+
+pub overflow_add-next-in-Some : goal.overflow_add-next-in-Some
+overflow_add-next-in-Some c =
+    omega (arith, decimal-within c.args.line.now c.loop-digit.next (digit_is (goal.at.overflow_add-next-in-Some c).In-Some))
+
+pub loop-digit-smaller : goal.loop-digit-smaller
+loop-digit-smaller c =
+    omega (arith, decimal-within c.args.line.now c.loop-digit.next (digit_is (goal.at.loop-digit-smaller c).In-Some))
+
+pub loop-digit-preserved : goal.loop-digit-preserved
+loop-digit-preserved c =
+    let e : c.in_ok-value-2.value ≡ c.loop-digit.value * 10 + c.in-Some.digit = omega (arith, c.in_ok-checked_mul.ensures, c.in_ok-value-2.ensures) in
+    rw e
+    (reading-more c.loop-digit.invariant (digit_is (goal.at.loop-digit-preserved c).In-Some) (omega (arith, c.in_ok-value-2.ensures)))

@@ -3,8 +3,8 @@ use lib.ListN.{length}
 use Rattle.text.proofs.Line.{Reading}
 use Rattle.text.proofs.numeral.decimal.Given as goal
 
-abbrev pub invariant-loop-d : goal.invariant-loop-d
-invariant-loop-d l = Reading l.line l.at l.value l.next l.d
+abbrev pub invariant-loop-digit : goal.invariant-loop-digit
+invariant-loop-digit l = Reading l.line l.at l.value l.next
 
-abbrev pub decreases-loop-d : goal.decreases-loop-d
-decreases-loop-d l = length l.line - l.next
+abbrev pub decreases-loop-digit : goal.decreases-loop-digit
+decreases-loop-digit l = length l.line - l.next

@@ -1,10 +1,9 @@
 use mathlib.Core.Path.{◌≡◌}
-use lib.ListN.{drop}
+use Prim.Native.Nat.{◌+◌, ◌-◌, ◌≤◌}
+use lib.ListN.{drop, length}
 use Rattle.text.specs.Numeral.{hex_from}
 use Rattle.text.proofs.numeral.hex.Given as goal
 
-abbrev pub invariant-loop-left : goal.invariant-loop-left
-invariant-loop-left l = hex_from l.left l.value l.next (drop l.next l.line) ≡ hex_from l.digits 0 l.at (drop l.at l.line)
-
-abbrev pub decreases-loop-left : goal.decreases-loop-left
-decreases-loop-left l = l.left
+abbrev pub invariant-loop-k : goal.invariant-loop-k
+invariant-loop-k l = (l.k ≤ length l.line - l.at)
+    × (hex_from (l.digits - l.k) l.value (l.at + l.k) (drop (l.at + l.k) l.line) ≡ hex_from l.digits 0 l.at (drop l.at l.line))

@@ -4,6 +4,7 @@ use mathlib.Core.List.{[], ◌∷◌}
 use Prim.Native.Nat.{ℕ}
 use lib.ListN.{take}
 use lib.Ieee.{Float, binary64, of_bits, to_bits}
+use Rattle.std.specs.Prelude.{Ok, Result}
 use Rattle.answers.specs.Table.{Answer, answer, wholes}
 use Rattle.answers.specs.Listed.{written}
 use Rattle.numbers.specs.Words.{bytes_of}
@@ -12,13 +13,12 @@ use Rattle.imapb.specs.Mapping.{code_of, value_of}
 use Rattle.imapb.specs.Tables.{reads, imapb_listed, imapb_read}
 use Rattle.imapb.specs.declared.decode.DecodedImapb.{DecodedImapb}
 use Rattle.imapb.specs.declared.decode.DecodedImapb.TheVariants.{Value}
-use Rattle.imapb.specs.declared.decode.ImapbRead.{ImapbRead}
-use Rattle.imapb.specs.declared.decode.ImapbRead.TheVariants.{Done}
 use Rattle.imapb.proofs.NoNan.{value-number}
 use Rattle.trip.proofs.Stood.{done-front}
 use Rattle.trip.proofs.Coded.{code-written, code_read}
 use Rattle.trip.proofs.compare.value_back.Goals as goal
 use Rattle.trip.proofs.compare.value_back.Goals.{After-decode_imapb-read, After-encode_imapb, In-Value}
+use Rattle.answers.specs.declared.Refusal.{Refusal}
 
 abbrev size : (c : After-encode_imapb) → ℕ
 size c = c.args.clen
@@ -40,7 +40,7 @@ done-read c =
     ∙ code_read (size c.before.before.before.before) c.args.sent c.requires.0 c.requires.1
 
 -- what an answer that reads v tells of the enum
-told : {r : ImapbRead} {v : DecodedImapb} → imapb_listed r ≡ reads v → {d : DecodedImapb} → r ≡ Done d → d ≡ v
+told : {r : Result DecodedImapb Refusal} {v : DecodedImapb} → imapb_listed r ≡ reads v → {d : DecodedImapb} → r ≡ Ok d → d ≡ v
 told h e = cc
 
 -- the number that it holds
@@ -49,11 +49,11 @@ held e = cc
 
 is_number : (c : In-Value) → let e = c.before.before.before.before.before.before in c.in-Value.x ≡ value_of (size e) (number e)
 is_number c =
-    held (sym c.in-Value.is ∙ told (done-read c.before.before) c.in-Done-read.is)
+    held (sym c.in-Value.is ∙ told (done-read c.before.before) c.in-Ok-read.is)
 
 pub returns-in_default-decoded : goal.returns-in_default-decoded
 returns-in_default-decoded c =
-    absurd (c.in_default-decoded.not-Value _ (told (done-read (goal.at.returns-in_default-decoded c).After-decode_imapb-read) c.in-Done-read.is))
+    absurd (c.in_default-decoded.not-Value _ (told (done-read (goal.at.returns-in_default-decoded c).After-decode_imapb-read) c.in-Ok-read.is))
 
 pub float_to_bits-result : goal.float_to_bits-result
 float_to_bits-result c = let e = (goal.at.float_to_bits-result c).After-encode_imapb in rw (is_number (goal.at.float_to_bits-result c).In-Value, value-number (size e) (number e)) tt

@@ -11,9 +11,9 @@ use Rattle.trip.proofs.round_trip.round_trip.Goals.{After-decode_sdcc_flp-read}
 
 -- what is known once it is written
 is-written : (c : After-decode_sdcc_flp-read)
-    → Wrote c.args.deviations.now c.args.correlations.now c.args.clen c.args.pack.now c.encode_sdcc_flp_mode2-written.new.out c.in-Done.n
+    → Wrote c.args.deviations.now c.args.correlations.now c.args.clen c.args.pack.now c.encode_sdcc_flp_mode2-written.new.out c.in-Ok.n
 is-written c =
-    let h = ap written c.in-Done.is in
+    let h = ap written c.in-Ok.is in
     let e = c.encode_sdcc_flp_mode2-written.ensures in
     record { answers = sym h ∙ e.0; leaves = rw h at e.1 }
 
@@ -37,7 +37,7 @@ left c =
     }
 
 ran : (c : After-decode_sdcc_flp-read)
-    → Ran c.args.deviations.now c.args.correlations.now c.args.clen (lent c) (left c) c.in-Done.n (read_listed c.decode_sdcc_flp-read.result)
+    → Ran c.args.deviations.now c.args.correlations.now c.args.clen (lent c) (left c) c.in-Ok.n (read_listed c.decode_sdcc_flp-read.result)
 ran c =
     let e = c.decode_sdcc_flp-read.ensures in
     record { wrote = is-written c; read = e.0; deviations = e.1; correlations = e.2; states = e.3 }
@@ -52,8 +52,8 @@ returns-in_default-read c =
     let r = (goal.at.returns-in_default-read c).After-decode_sdcc_flp-read in read-refused (ran r) (rw c.in_default-read.is (refused-not-done c.in_default-read.field-0))
 
 pub same_numbers-requires : goal.same_numbers-requires
-same_numbers-requires c = comparable (ran (goal.at.same_numbers-requires c).After-decode_sdcc_flp-read) (rw c.in-Done-read.is)
+same_numbers-requires c = comparable (ran (goal.at.same_numbers-requires c).After-decode_sdcc_flp-read) (rw c.in-Ok-read.is)
 
 pub returns : goal.returns
 returns c =
-    compared (ran (goal.at.returns c).After-decode_sdcc_flp-read) (rw c.in-Done-read.is) c.same_numbers.ensures
+    compared (ran (goal.at.returns c).After-decode_sdcc_flp-read) (rw c.in-Ok-read.is) c.same_numbers.ensures

@@ -7,4 +7,4 @@ use Rattle.writer.proofs.elements.write_head.Goals as goal
 pub returns : goal.returns
 returns c =
     let a = c.args in
-    rw c.control_byte.ensures (head-stored a.rows (omega arith) a.out.now (omega arith) c.write_ber_oid-size.result c.write_ber_oid-size.new.out c.write_ber_oid-size.ensures (control_byte a.sparse a.clen) 4 c.in-Done.is)
+    rw c.control_byte.ensures (head-stored a.rows (omega arith) a.out.now (omega arith) c.write_ber_oid.result c.write_ber_oid.new.out c.write_ber_oid.ensures (control_byte a.sparse a.clen) 4 c.in-Ok.is)

@@ -1,13 +1,10 @@
 -- `write::encode_sdcc_flp_mode2` meets its contract: a refusal that leaves all as it was, or the slots and the others.
-use mathlib.Core.Path.{◌≡◌, sym, ap, ◌∙◌}
-use mathlib.Core.List.{List}
-use Prim.Native.Nat.{ℕ}
+use mathlib.Core.Path.{◌≡◌, ap, ◌∙◌}
 use lib.ListN.{length}
-use Rattle.answers.specs.Table.{Answer}
+use Rattle.std.proofs.lemmas.Result.{err_from_is_err_and}
 use Rattle.answers.proofs.OneToOne.{refused-not-done}
 use Rattle.plan.specs.declared.places.Plan.{Plan}
-use Rattle.answers.specs.Outcome.{Outcome, found}
-use Rattle.plan.specs.Listed.{plan_listed}
+use Rattle.answers.specs.Outcome.{found}
 use Rattle.plan.specs.Places.{pack_plan}
 use Rattle.plan.proofs.Counts.{both-pass}
 use Rattle.answers.proofs.Outcome.{found-tells, refused-tells}
@@ -16,51 +13,41 @@ use Rattle.slots.specs.Rules.{slots_rules}
 use Rattle.writer.proofs.Packed.{plan-end, packed}
 use Rattle.writer.proofs.Whole.{slots-stop, slots-pass, all_pass}
 use Rattle.writer.proofs.write.encode_sdcc_flp_mode2.Goals as goal
-use Rattle.writer.proofs.write.encode_sdcc_flp_mode2.Goals.{In-Done, Start}
-
--- what is sent
-abbrev ds : Start → List ℕ
-ds s = s.args.deviations.now
-
-abbrev cs : Start → List ℕ
-cs s = s.args.correlations.now
-
-abbrev clen : Start → ℕ
-clen s = s.args.clen
-
-abbrev out : Start → List ℕ
-out s = s.args.out.now
-
--- the rules that the slots go by, and the plan
-abbrev rules : Start → Answer
-rules s = slots_rules (length (ds s)) (cs s) (clen s) (length (out s))
-
-abbrev plan : Start → Plan
-plan s = pack_plan (length (ds s)) (cs s) (clen s)
+use Rattle.writer.proofs.write.encode_sdcc_flp_mode2.Goals.{In_ok-plan}
 
 -- where there is a plan, no rule refuses, it is that of what is sent, and the slots are written by it
-told : (c : In-Done) → let s = c.before.before.before.before.before.before.before.before.before in ((rules s).number ≡ 0) × (c.in-Done.plan ≡ plan s)
+told : (c : In_ok-plan) →
+    let a = c.args in
+    let n = length a.deviations.now in
+    ((slots_rules n a.correlations.now a.clen (length a.out.now)).number ≡ 0) × (c.in_ok-plan.plan ≡ pack_plan n a.correlations.now a.clen)
 told c =
-    let s = c.before.before.before.before.before.before.before.before.before in found-tells (rules s) (plan s) (sym (ap plan_listed c.in-Done.is) ∙ c.write_slots-slots.ensures.0)
+    let a = c.args in
+    let n = length a.deviations.now in
+    found-tells (slots_rules n a.correlations.now a.clen (length a.out.now)) (pack_plan n a.correlations.now a.clen) c.in_ok-plan.ensures.0
 
-left : (c : In-Done)
-    → let s = c.before.before.before.before.before.before.before.before.before in c.write_slots-slots.new.out ≡ slots_over (cs s) (plan s) (out s)
-left c =
-    let s = c.before.before.before.before.before.before.before.before.before in c.write_slots-slots.ensures.1 ∙ ap (λ (o : Outcome Plan). slots_left o (cs s) (out s)) (ap plan_listed c.in-Done.is ∙ ap found (told c).1)
+left : (c : In_ok-plan) →
+    let a = c.args in
+    c.write_slots.new.out ≡ slots_over a.correlations.now (pack_plan (length a.deviations.now) a.correlations.now a.clen) a.out.now
+left c = let a = c.args in c.in_ok-plan.ensures.1 ∙ ap (λ (p : Plan). slots_left (found p) a.correlations.now a.out.now) (told c).1
 
-pub returns-in-Refused : goal.returns-in-Refused
-returns-in-Refused c =
-    let s = (goal.at.returns-in-Refused c).Start in let q = ap plan_listed c.in-Refused.is in
-    let e = refused-tells (rules s) (plan s) (sym q ∙ c.write_slots-slots.ensures.0) in (
-      slots-stop (ds s) (cs s) (clen s) (length (out s)) c.in-Refused.refusal e,
-      rw (refused-not-done c.in-Refused.refusal) (c.write_slots-slots.ensures.1 ∙ ap (λ (o : Outcome Plan). slots_left o (cs s) (out s)) q),
-    )
+pub returns-in_err-plan : goal.returns-in_err-plan
+returns-in_err-plan c =
+    let a = c.args in
+    let n = length a.deviations.now in
+    let p = err_from_is_err_and c.from_residual.result c.from_residual.ensures.1 in
+    let r = c.in_err-plan in
+    let e = refused-tells (slots_rules n a.correlations.now a.clen (length a.out.now)) (pack_plan n a.correlations.now a.clen) r.ensures.0 in
+    rw (p.1, p.2) (slots-stop a.deviations.now a.correlations.now a.clen (length a.out.now) r.field-0.0 e, rw (refused-not-done r.field-0.0) r.ensures.1)
 
 pub returns : goal.returns
 returns c =
-    let k = (goal.at.returns c).In-Done in let s = (goal.at.returns c).Start in let t = slots-pass (ds s) (cs s) (clen s) (length (out s)) (told k).0 in
-    let b = both-pass (length (ds s)) (cs s) (clen s) t.0 in
-    let e = plan-end (ds s) (cs s) (clen s) t.0 in (
-      rw ((told k).1, e) (all_pass (ds s) (cs s) (clen s) (length (out s)) b.0 b.1 (rw e at t.1)),
-      c.write_others.ensures ∙ rw ((told k).1, left k) (packed (ds s) (cs s) (clen s) t.0 (out s) t.1),
+    let k = (goal.at.returns c).In_ok-plan in let a = k.args in
+    let ds = a.deviations.now in
+    let cs = a.correlations.now in
+    let out = a.out.now in
+    let t = slots-pass ds cs a.clen (length out) (told k).0 in
+    let b = both-pass (length ds) cs a.clen t.0 in
+    let e = plan-end ds cs a.clen t.0 in (
+      rw ((told k).1, e) (all_pass ds cs a.clen (length out) b.0 b.1 (rw e at t.1)),
+      c.write_others.ensures ∙ rw ((told k).1, left k) (packed ds cs a.clen t.0 out t.1),
     )

@@ -1,0 +1,9 @@
+-- `stream::refused` meets its contract: the line stands at the front of what was lent.
+use Rattle.std.proofs.Common.{rules}
+use Rattle.text.proofs.Adding.{put_opened}
+use Rattle.convert.proofs.Made.{streams-text}
+use Rattle.convert.proofs.stream.refused.Goals as goal
+
+pub returns : goal.returns
+returns c =
+    streams-text (put_opened c.new-line.ensures c.put_refusal.ensures c.place.ensures (search rules))
