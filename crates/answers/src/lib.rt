@@ -1,4 +1,4 @@
-//! Document 01's table of answers: the refusals, and the answer of whatever writes into lent memory.
+//! Document 01's table of answers: the refusals.
 #![tactic(auto)]
 
 pub mod row;

@@ -14,6 +14,7 @@ pub struct Row {
     pub floats: bool,
 }
 
+// A function and no `From`: `Determined` names it.
 pub fn row_of(refusal: Refusal) -> Row
     ensures { result ≡ row_of refusal }
 {

@@ -38,7 +38,7 @@ fn fill_all(
 }
 
 // Where the next code starts, and the bits that were met.
-#[derive(Clone, Copy)]
+#[derive(Clone, Copy, Debug, PartialEq, Eq)]
 struct Reached {
     next: usize,
     met: u64,
@@ -148,7 +148,8 @@ impl Coded<'_> {
         requires { (self.now.slots ≤ length correlations.old) × (self.now.slots ≤ length states.old) }
         ensures { (correlations.new
             ≡ over (tab self.now.slots
-            (λ k. (slot_in self.now.bytes.now self.now.vector self.now.codes self.now.control k).bits)) correlations.old)
+            (λ k. (slot_in self.now.bytes.now self.now.vector self.now.codes self.now.control k).bits))
+            correlations.old)
             × (states.new
             ≡ over (tab self.now.slots (present_as1 self.now.bytes.now self.now.vector self.now.control)) states.old)
             × Within self.now.bytes.now self.now.codes self.now.mapping.length

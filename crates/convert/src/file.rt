@@ -24,20 +24,15 @@ fn put_npy(bytes: &[u8], out: &mut [u8]) -> Result<usize, Refusal>
     let mut deviations: [u64; MAX_ROWS] = room_of(0);
     let mut correlations: [u64; MAX_SLOTS] = room_of(0);
     let mut states: [u8; MAX_SLOTS] = room_of(0);
-    let read = decode_sdcc_flp(bytes, &mut deviations, &mut correlations, &mut states);
-    match read {
-        Ok(pack) => {
-            let rows = pack.deviations;
-            let slots = pack.slots;
-            export_npy(
-                pack.matrix_size,
-                &deviations[..rows],
-                &correlations[..slots],
-                out,
-            )
-        }
-        Err(refusal) => Err(refusal),
-    }
+    let pack = decode_sdcc_flp(bytes, &mut deviations, &mut correlations, &mut states)?;
+    let rows = pack.deviations;
+    let slots = pack.slots;
+    export_npy(
+        pack.matrix_size,
+        &deviations[..rows],
+        &correlations[..slots],
+        out,
+    )
 }
 
 // The file of the pack that the bytes are, over the front of `out`, or why there is none.

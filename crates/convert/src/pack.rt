@@ -43,15 +43,10 @@ fn put_pack(clen: Option<usize>, file: &[u8], out: &mut [u8]) -> Result<usize, R
     let mut deviations: [u64; MAX_ROWS] = room_of(0);
     let mut correlations: [u64; MAX_SLOTS] = room_of(0);
     let mut states: [u8; MAX_SLOTS] = room_of(0);
-    let read = import_npy(file, &mut deviations, &mut correlations, &mut states);
-    match read {
-        Ok(pack) => {
-            let rows = pack.deviations;
-            let slots = pack.slots;
-            write_with(clen, &deviations[..rows], &correlations[..slots], out)
-        }
-        Err(refusal) => Err(refusal),
-    }
+    let pack = import_npy(file, &mut deviations, &mut correlations, &mut states)?;
+    let rows = pack.deviations;
+    let slots = pack.slots;
+    write_with(clen, &deviations[..rows], &correlations[..slots], out)
 }
 
 // The pack of the matrix that the file holds, over the front of `out`, or why there is none.

@@ -9,7 +9,7 @@ use layout::control::ParseControl;
 use ranges::mapping::{RangeMapping, range_mapping};
 use ranges::range::{ImapbParams, check_range};
 
-// The range of deviations in mapped form, which no pack says: unknown, or lent with it.
+// The range of deviations in mapped form, which no pack says: it is lent with one, or not at all.
 #[derive(Clone, Copy, Debug, PartialEq)]
 pub struct DeviationRange {
     pub min: f64,

@@ -42,7 +42,7 @@ fn vector_length(head: Head) -> usize
     }
 }
 
-// What a pack of that head holds.
+// What a pack of that head holds. A function and no `From`: `Determined` names it.
 pub fn pack_of(head: Head) -> SdccFlp
     ensures { result ≡ pack_of head }
 {

@@ -1,4 +1,5 @@
-//! One number of a pack, as binary64 bits.
+//! One number of a pack, as binary64 bits. Its place goes with the pack and is no cursor: each contract is one
+//! equation.
 ghost use Rattle.std.specs.Prelude.{◌≡◌, ◌-◌, length};
 ghost use Rattle.answers.specs.Listed.{checked};
 ghost use Rattle.elements.specs.Elements.{value_bits};
@@ -10,7 +11,7 @@ use layout::control::ParseControl;
 use numbers::conversions::{binary32_to_binary64, bits_of};
 use numbers::words::read_be;
 
-// What a number's answer is as a rule's: it passes, or is refused.
+// What a number's answer is as a rule's: it passes, or is refused. `Determined` names it, and `check_slot` beside it.
 pub fn check_number(number: Result<u64, Refusal>) -> Result<(), Refusal>
     ensures { checked result ≡ refusal_of (number_listed number) }
 {
@@ -75,7 +76,7 @@ pub fn deviation_at(bytes: &[u8], at: usize, control: ParseControl) -> Result<u6
     ieee_at(bytes, at, slen)
 }
 
-// The bits of a value, and 0.0 for everything else.
+// The bits of a value, and 0.0 for everything else. A function and no `From`, as `slot_of`: `Determined` names it.
 pub fn value_bits(decoded: DecodedImapb) -> u64
     ensures { result ≡ value_bits decoded }
 {

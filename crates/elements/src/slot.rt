@@ -18,7 +18,7 @@ pub struct Slot {
     pub state: u8,
 }
 
-// What a slot's answer is as a rule's: it passes, or is refused.
+// What a slot's answer is as a rule's: it passes, or is refused. `Determined` names it, and `check_number` beside it.
 pub fn check_slot(read: Result<Slot, Refusal>) -> Result<(), Refusal>
     ensures { checked result ≡ refusal_of (slot_listed read) }
 {
@@ -38,7 +38,7 @@ pub fn state_of(decoded: DecodedImapb) -> u8
     }
 }
 
-// The slot of a code that reads so.
+// The slot of a code that reads so. A function and no `From`: `Determined` names it.
 pub fn slot_of(decoded: DecodedImapb) -> Slot
     ensures { result ≡ decoded_slot decoded }
 {
@@ -86,7 +86,7 @@ pub fn correlation_at(bytes: &[u8], at: usize, control: ParseControl) -> Result<
     mapped_slot(decode_imapb(clen, &bytes[at..end]))
 }
 
-// A slot: 0.0 where it is absent.
+// A slot: 0.0 where it is absent. A flag, which is the slot's bit of the vector.
 pub fn slot_at(
     bytes: &[u8],
     at: usize,

@@ -129,7 +129,7 @@ fn code_in(bytes: &[u8]) -> u64
     numbers::words::read_be(bytes)
 }
 
-// The length of a code, and the slice that holds it has just as many bytes.
+// The length of a code, where it is one and the slice has just as many bytes.
 fn length_in(length: usize, bytes: &[u8]) -> Result<CodeLength, Refusal>
     ensures { length_listed result ≡ unless (code_rules length bytes.now) length }
 {
@@ -143,7 +143,7 @@ fn length_in(length: usize, bytes: &[u8]) -> Result<CodeLength, Refusal>
     Ok(supported)
 }
 
-// And the slice that holds it has just as many.
+// A code has 1 to 8 bytes, and the slice that holds it just as many.
 pub fn check_code(length: usize, bytes: &[u8]) -> Result<(), Refusal>
     ensures { checked result ≡ code_rules length bytes.now }
 {

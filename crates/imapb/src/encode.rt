@@ -31,7 +31,8 @@ pub fn check_range(value: u64) -> Result<(), Refusal>
     Ok(())
 }
 
-// The sum with 1, scaled exactly, and of that the whole part.
+// The sum with 1, scaled exactly, and of that the whole part. That the number is in range is asked of its bits: a type
+// of it would be taken apart here.
 fn code_of(length: CodeLength, value: u64) -> u64
     requires { T (in_range (of_bits binary64 value)) }
     ensures { result ≡ code_of length.bytes (of_bits binary64 value) }

@@ -8,7 +8,7 @@ ghost use Rattle.lines.specs.Lines.{entry_text, entries, numbers};
 use text::page::Page;
 use text::part::within;
 
-// In decimal, or as the bits of a binary64.
+// In decimal, or as the bits of a binary64, by the row's flag (`Row`).
 fn put_value(value: u64, floats: bool, page: &mut Page<'_>)
     ensures { Adds (entry_text (pick floats (bits64 value) (whole value))) page.old page.new }
 {
@@ -19,7 +19,7 @@ fn put_value(value: u64, floats: bool, page: &mut Page<'_>)
     }
 }
 
-// The first `count` of them, or all.
+// The first `count` of them, or all: three and a count, as a row has them.
 pub fn put_entries(count: usize, values: [u64; 3], floats: bool, page: &mut Page<'_>)
     ensures { Adds (entries (pick floats (floats64 (take count values)) (wholes (take count values))))
         page.old page.new }

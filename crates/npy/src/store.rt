@@ -20,7 +20,7 @@ impl MatrixFile<'_> {
         }
     }
 
-    // The slots of row i, of which the first is given.
+    // The slots of row i, of which the first is given, a fact of this call alone; and a room that is lent apart.
     fn store_row(&self, i: usize, first: usize, correlations: &mut [u64])
         requires { (i < self.now.rows) × (first ≡ slot_of self.now.rows i (i + 1))
             × (slots_of self.now.rows ≤ length correlations.old) }

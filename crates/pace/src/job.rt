@@ -4,7 +4,7 @@ use std::rt::Env;
 use text::numeral::decimal;
 
 // Each does the first six in turn. Idle does nothing, so that what the repetitions themselves cost can be taken off.
-#[derive(Clone, Copy)]
+#[derive(Clone, Copy, Debug, PartialEq, Eq)]
 pub(crate) enum Op {
     Read,
     Write,
@@ -19,14 +19,14 @@ pub(crate) enum Op {
 }
 
 // The pack: with a value in every slot, in one of four, or with a special code in every slot.
-#[derive(Clone, Copy)]
+#[derive(Clone, Copy, Debug, PartialEq, Eq)]
 pub(crate) enum Kind {
     Full,
     Sparse,
     Specials,
 }
 
-#[derive(Clone, Copy)]
+#[derive(Clone, Copy, Debug, PartialEq, Eq)]
 pub(crate) struct Job {
     pub(crate) op: Op,
     pub(crate) rows: usize,

@@ -8,7 +8,7 @@ use elements::present::is_present;
 use elements::slot::slot_at;
 use layout::control::ParseControl;
 
-// Slot by slot, in every format.
+// Slot by slot, in every format. The rooms are lent apart, so it is asked here that they are long enough.
 pub(crate) fn fill_plain(
     bytes: &[u8],
     vector: usize,

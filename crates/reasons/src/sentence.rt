@@ -7,7 +7,7 @@ use crate::table::{WIDTH, letter};
 use text::page::Page;
 
 // What the letters of a sentence stand for.
-#[derive(Clone, Copy)]
+#[derive(Clone, Copy, Debug, PartialEq, Eq)]
 pub(crate) struct Facts {
     // N: the rows of the matrix
     pub(crate) rows: u64,

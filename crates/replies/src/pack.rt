@@ -41,6 +41,7 @@ pub fn of_cell(cell: Result<u64, Refusal>) -> Reply
     }
 }
 
+// A flag, which is all that is replied.
 pub fn of_usable(usable: bool) -> Reply
     ensures { result ≡ usable_reply usable }
 {

@@ -7,6 +7,7 @@ use crate::reply::Reply;
 use answers::Refusal;
 use answers::row::row_of;
 
+// By the row's own columns (`Row`).
 fn form_of(count: usize, floats: bool) -> usize
     requires { count ≤ 3 }
     ensures { result ≡ refused_form count floats }

@@ -1,4 +1,4 @@
-//! What a reply is made of.
+//! What a reply is made of. Of one type there may be two, so replies are made by functions and not by `From`.
 ghost use Rattle.std.specs.Prelude.{◌≡◌};
 ghost use Rattle.replies.specs.Reply.{words_reply, one_reply};
 

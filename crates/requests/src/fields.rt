@@ -38,7 +38,7 @@ fn number(letter: u8, line: &[u8], at: usize) -> Option<Numeral>
 }
 
 // Where a list goes in the words, and how its entries are spelled.
-#[derive(Clone, Copy)]
+#[derive(Clone, Copy, Debug, PartialEq, Eq)]
 struct Part {
     start: usize,
     end: usize,

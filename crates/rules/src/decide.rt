@@ -73,7 +73,8 @@ impl Opened<'_> {
     // Rule h): every deviation. Mapped ones are each looked at; of the others the first tells.
     fn deviations_held(self, form: DeviationForm) -> Result<(), Refusal>
         ensures { checked result
-            ≡ form_rule self.entry.bytes.now self.entry.places.deviations self.entry.places.head.control (form_listed form)
+            ≡ form_rule self.entry.bytes.now self.entry.places.deviations self.entry.places.head.control
+            (form_listed form)
             (deviation_count self.entry.places.head) }
     {
         let Opened { bytes, places } = self;
@@ -108,7 +109,8 @@ impl Opened<'_> {
     // Rules h) to k), of a pack that has passed a) to g).
     pub(crate) fn elements_whole(self, form: DeviationForm) -> Result<(), Broken>
         ensures { ruled result
-            ≡ element_ruled (form_rule self.entry.bytes.now self.entry.places.deviations self.entry.places.head.control (form_listed form)
+            ≡ element_ruled (form_rule self.entry.bytes.now self.entry.places.deviations
+            self.entry.places.head.control (form_listed form)
             (deviation_count self.entry.places.head)) self.entry.bytes.now self.entry.places.head }
     {
         by(Rule::H, self.deviations_held(form))?;

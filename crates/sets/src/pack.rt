@@ -3,7 +3,7 @@ ghost use Rattle.std.specs.Prelude.{◌≡◌, ◌-◌};
 ghost use Rattle.sets.specs.Packs.{pack_in, next_pack};
 
 use crate::item::{Item, read_item};
-use crate::part::bytes_from;
+use crate::part::items_from;
 use crate::tag::{PACK, tag_count};
 use layout::size::peek_matrix_size;
 
@@ -43,7 +43,7 @@ fn pack_in(set: &[u8], item: Item, seen: usize) -> Option<PackPlace>
     if item.tag != PACK {
         return None;
     }
-    let n = peek_matrix_size(bytes_from(set, item.start, item.end))?;
+    let n = peek_matrix_size(items_from(set, item.start, item.end))?;
     Some(PackPlace {
         start: item.start,
         end: item.end,

@@ -9,7 +9,7 @@ ghost use Rattle.sets.specs.Packs.{tags_of};
 ghost use Rattle.sets.specs.Rules.{peek_rule, pack_rule, room_rule, set_listed, set_answer, left_tags};
 
 use crate::item::{Item, read_item};
-use crate::part::bytes_from;
+use crate::part::items_from;
 use crate::tag::{PACK, is_pushed, pack_count, tag_count};
 use answers::Refusal;
 use layout::size::peek_matrix_size;
@@ -36,7 +36,7 @@ fn check_item(set: &[u8], item: Item, seen: usize, room: usize) -> Result<(), Re
         ≡ next (pack_rule set.now item.tag item.start item.end) (room_rule room seen item.tag) }
 {
     if item.tag == PACK {
-        return check_pack(bytes_from(set, item.start, item.end));
+        return check_pack(items_from(set, item.start, item.end));
     }
     if seen < room {
         return Ok(());
@@ -57,6 +57,7 @@ pub(crate) fn decide(set: &[u8], room: usize) -> Result<SetCounts, Refusal>
     let mut packs: usize = 0;
     let mut seen: usize = 0;
     let mut at: usize = 0;
+    // from item to item, each as long as it says
     while at < set.len() {
         let item = read_item(set, at).ok_or(Refusal::MalformedItem { offset: at })?;
         check_item(set, item, seen, room)?;
@@ -74,6 +75,7 @@ fn store_tags(set: &[u8], tags: &mut [u32])
 {
     let mut seen: usize = 0;
     let mut at: usize = 0;
+    // the same
     while let Some(item) = read_item(set, at) {
         if is_pushed(item.tag) {
             tags[seen] = item.tag;

@@ -15,14 +15,14 @@ pub fn is_pushed(tag: u32) -> bool
     tag != PACK && tag != CHECKSUM
 }
 
-// How many tags an item of that tag pushes.
+// How many tags an item of that tag pushes: 1 or 0, which is summed.
 pub(crate) fn tag_count(tag: u32) -> usize
     ensures { result ≡ tag_count tag }
 {
     if is_pushed(tag) { 1 } else { 0 }
 }
 
-// How many packs it is.
+// How many packs it is: 1 or 0, which is summed.
 pub(crate) fn pack_count(tag: u32) -> usize
     ensures { result ≡ pack_count tag }
 {

@@ -32,7 +32,7 @@ pub fn put_deviations(count: usize, deviations: &[u64], page: &mut Page<'_>)
 }
 
 // Where a slot stands.
-#[derive(Clone, Copy)]
+#[derive(Clone, Copy, Debug, PartialEq, Eq)]
 pub(crate) struct Pair {
     pub(crate) i: u64,
     pub(crate) j: u64,

@@ -13,7 +13,7 @@ use text::marks;
 use text::page::Page;
 
 // How much is lent of each list.
-#[derive(Clone, Copy)]
+#[derive(Clone, Copy, Debug, PartialEq, Eq)]
 pub struct Lent {
     pub deviations: u64,
     pub correlations: u64,

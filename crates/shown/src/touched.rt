@@ -7,6 +7,7 @@ use replies::put::put_reply;
 use replies::reply::words;
 use text::page::Page;
 
+// A flag, which is all that is said.
 pub fn put_touched(changed: bool, page: &mut Page<'_>)
     ensures { Adds (touched_text changed) page.old page.new }
 {

@@ -11,8 +11,8 @@ ghost use Rattle.slots.specs.Slots.{coded};
 use imapb::encode::imapb_code;
 use numbers::words::write_be;
 
-// The code of a correlation, from a place on.
-// A place and a slice, no Page (text/src/page.rt): each store is proved to fit there, and two places move at once.
+// The code of a correlation, from a place on: in a slice and on no page, since each store is proved to fit. What is
+// asked of the number and of `clen` is asked of one number at a time, and no type carries it.
 pub(crate) fn put_slot(value: u64, clen: usize, at: usize, out: &mut [u8])
     requires { Supported clen × T (in_range (of_bits binary64 value)) × (at + clen ≤ length out.old) }
     ensures { out.new ≡ sets out.old at (coded clen value) }

@@ -17,14 +17,14 @@ use crate::planned::Planned;
 use plan::zero::zero_of;
 
 // What eight slots came to: their byte of the Bit Vector, and the place behind their codes.
-#[derive(Clone, Copy)]
+#[derive(Clone, Copy, Debug, PartialEq, Eq)]
 pub(crate) struct Group {
     pub(crate) bits: u8,
     pub(crate) next: usize,
 }
 
 // So many bytes of the Bit Vector, and the place behind the codes of their slots.
-#[derive(Clone, Copy)]
+#[derive(Clone, Copy, Debug, PartialEq, Eq)]
 pub(crate) struct Sent {
     pub(crate) bytes: usize,
     pub(crate) next: usize,
@@ -48,6 +48,7 @@ fn put_sent(value: u64, clen: usize, at: usize, out: &mut [u8]) -> u8
     ensures { (result ≡ pick (not (is_zero value)) 1 0)
         × (out.new ≡ sets out.old at (sent_bytes value clen)) }
 {
+    // the count of zeros that it is
     if zero_of(value) == 1 {
         return 0;
     }
@@ -116,6 +117,7 @@ impl Planned<'_> {
         let limit = plan.end - reach;
         let mut next = plan.codes;
         let mut i: usize = 0;
+        // as long as the words of eight more slots fit, which their codes decide
         while next <= limit {
             next = self.write_group_words(8 * i, next, plan.vector + i, out);
             i += 1;

@@ -4,7 +4,8 @@ ghost use Rattle.slots.specs.Fill.{SlotsFit};
 
 use plan::places::Plan;
 
-// Every correlation has a code of the plan's length, and elements 3 and 5 stand at its places up to its end.
+// Every correlation has a code of the plan's length, and elements 3 and 5 stand at its places up to its end. `out` is
+// lent apart, so whoever writes to it asks that it is long enough.
 #[derive(Clone, Copy)]
 pub(crate) struct Planned<'a> {
     pub correlations: &'a [u64],

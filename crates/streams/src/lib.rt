@@ -11,6 +11,7 @@ pub fn read_full<R: Read>(reader: &mut R, bytes: &mut [u8]) -> io::Result<usize>
     ensures { ReadsAtMost result bytes.new }
 {
     let mut done: usize = 0;
+    // as much at a time as the reader gives
     while done < bytes.len() {
         let count = reader.read(&mut bytes[done..])?;
         if count == 0 {

@@ -1,4 +1,5 @@
-//! A page: lent memory, and how far it is filled. What has no room is left out.
+//! A page: lent memory, and how far it is filled. What has no room is left out. It is no `fmt::Write`: a contract of
+//! `write!` says nothing where that fails, and adding to a page can't fail.
 ghost use Rattle.std.specs.Prelude.{◌≡◌, [], ◌∷◌, ◌<◌, ◌*◌, ◌/◌, ◌%◌, ◌^◌, min, length};
 ghost use Rattle.text.specs.Text.{glyph, figures, decimal, named, spaced_bits};
 ghost use Rattle.text.specs.Page.{Opened, Adds};

@@ -1,7 +1,7 @@
 //! Rooms for what is lent.
 ghost use Rattle.std.specs.Prelude.{◌≡◌, length, All};
 
-// An array of one entry's copies. The check would count the elements of one that is made where it is used.
+// An array of copies of one entry. Made here, since the check counts the elements of one that is made where it is used.
 pub fn room_of<T: Copy, const N: usize>(entry: T) -> [T; N]
     ensures long { N ≡ length result }
     ensures filled { All (λ x. x ≡ entry) result }

@@ -25,8 +25,8 @@ fn put_printed(bytes: &[u8], page: &mut Page<'_>)
     }
 }
 
-// What is printed of the bytes, over the front of `out`. The frame is `print_pack`'s too: a function that takes what is put
-// as a closure would be no plainer.
+// What is printed of the bytes, over the front of `out`. The frame is `print_pack`'s too: a function that takes what is
+// put as a closure would be no plainer.
 pub fn print_why(bytes: &[u8], out: &mut [u8]) -> Result<usize, Refusal>
     ensures { (written result ≡ print_answer room (printed bytes.now) (length out.old))
         × (out.new ≡ leaves (written result) (printed bytes.now) out.old) }

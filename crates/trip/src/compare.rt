@@ -19,7 +19,7 @@ fn same_deviations(sent: &[u64], back: &[u64]) -> bool
     sent.iter().zip(back).all(|(&d, &r)| r == binary32_to_binary64(binary64_to_binary32(d)))
 }
 
-// The value of a correlation's code.
+// The value of a correlation's code. What was sent is asked for as the writer's rules have it, and no type carries it.
 fn value_back(clen: usize, sent: u64) -> u64
     requires { Supported clen × T (in_range (of_bits binary64 sent)) }
     ensures { result ≡ correlation_kept clen sent }

@@ -10,7 +10,8 @@ use numbers::conversions::binary64_to_binary32;
 use numbers::words::write_be;
 use plan::places::Plan;
 
-// Mode 2, Cf=1.
+// Mode 2, Cf=1; CS where the pack is sparse, a bit of the byte. Bounded numbers, and no types of them: each is a number
+// here.
 fn control_byte(sparse: bool, clen: usize) -> u8
     requires { clen ≤ 8 }
     ensures { result ≡ control_byte sparse clen }
