@@ -6,6 +6,10 @@ use Rattle.std.proofs.Common.{◌≡◌, ℕ, ◌+◌, ◌*◌, ◌/◌, ◌%◌
 pub within-fits : {x n : ℕ} → x ≤ n → n < 2 ^ 64 → Fits w64 x
 within-fits h f = omega arith
 
+-- where entry x of n starts, eight bytes to an entry
+pub entry-fits : {x n : ℕ} → x ≤ n → n * 8 < 2 ^ 64 → Fits w64 (x * 8)
+entry-fits h f = omega arith
+
 -- ---- slots from `at` on
 module _ (at count : ℕ) {n : ℕ} (h : at + count ≤ n) where
   pub starts-within : at ≤ n

@@ -31,7 +31,8 @@ pub fn by_words(control: ParseControl, codes: usize) -> bool
     control.cf
 }
 
-// Elements 3 and 5.
+// Elements 3 and 5. Not inlined: the loops have the registers to themselves.
+#[inline(never)]
 fn fill_mapped(
     bytes: &[u8],
     vector: usize,

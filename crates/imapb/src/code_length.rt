@@ -4,6 +4,7 @@ ghost use Rattle.answers.specs.Lent.{over};
 ghost use Rattle.numbers.specs.Words.{bytes_of};
 ghost use Rattle.imapb.specs.Mapping.{scale_of, top_of};
 
+use crate::decode::check_length;
 use answers::Refusal;
 
 // 2^(8L-2)
@@ -57,9 +58,7 @@ impl CodeLength {
     pub fn new(length: usize) -> Result<CodeLength, Refusal>
         ensures { length_listed result ≡ code_length length }
     {
-        if length < 1 || 8 < length {
-            return Err(Refusal::UnsupportedImapbLength { length });
-        }
+        check_length(length)?;
         Ok(CodeLength { bytes: length })
     }
 

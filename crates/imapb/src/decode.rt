@@ -115,7 +115,9 @@ fn reading_of(mapping: Mapping, y: u64) -> DecodedImapb
 pub fn check_length(length: usize) -> Result<(), Refusal>
     ensures { checked result ≡ length_rule length }
 {
-    let _ = CodeLength::new(length)?;
+    if length < 1 || 8 < length {
+        return Err(Refusal::UnsupportedImapbLength { length });
+    }
     Ok(())
 }
 
@@ -129,26 +131,26 @@ fn code_in(bytes: &[u8]) -> u64
     numbers::words::read_be(bytes)
 }
 
-// The length of a code, where it is one and the slice has just as many bytes.
-fn length_in(length: usize, bytes: &[u8]) -> Result<CodeLength, Refusal>
-    ensures { length_listed result ≡ unless (code_rules length bytes.now) length }
+// A code has 1 to 8 bytes, and the slice that holds it just as many.
+pub fn check_code(length: usize, bytes: &[u8]) -> Result<(), Refusal>
+    ensures { checked result ≡ code_rules length bytes.now }
 {
-    let supported = CodeLength::new(length)?;
+    check_length(length)?;
     if bytes.len() != length {
         return Err(Refusal::InvalidLength {
             expected: length,
             got: bytes.len(),
         });
     }
-    Ok(supported)
+    Ok(())
 }
 
-// A code has 1 to 8 bytes, and the slice that holds it just as many.
-pub fn check_code(length: usize, bytes: &[u8]) -> Result<(), Refusal>
-    ensures { checked result ≡ code_rules length bytes.now }
+// The length of a code, where it is one and the slice has just as many bytes.
+fn length_in(length: usize, bytes: &[u8]) -> Result<CodeLength, Refusal>
+    ensures { length_listed result ≡ unless (code_rules length bytes.now) length }
 {
-    let _ = length_in(length, bytes)?;
-    Ok(())
+    check_code(length, bytes)?;
+    CodeLength::new(length)
 }
 
 // What the code reads as.

@@ -1,4 +1,4 @@
--- Laws of the header: how long it is, what its padding leaves, and what a turn of the loop over its digits leaves to do.
+-- Laws of the header: how long it is, what its padding leaves, and what a turn of each loop over it leaves to do.
 -- Assumes nothing.
 use mathlib.Core.Path.{◌≡◌, refl, sym, ◌∙◌}
 use mathlib.Core.List.{List, [], ◌∷◌, append-nil}
@@ -7,8 +7,8 @@ use native.Mathlib.Nat.{zero-add, pow-suc, pow-le-pow_right}
 use native.Mathlib.Numerals.{add-one}
 use native.Mathlib.Omega.{arith}
 use borrow.Author.Tests.{le-ltb, eq-eqb, ne_eqb}
-use lib.ListN.{length, set, length-append, drop_of_length-le}
-use lib.Seq.{sets}
+use lib.ListN.{length, drop, get_or, set, length-append, drop_of_length-le}
+use lib.Seq.{sets, drop-cons}
 use Rattle.std.specs.Prelude.{Result, None, Some}
 use Rattle.answers.specs.Table.{answer, wholes}
 use Rattle.answers.specs.Listed.{written}
@@ -21,7 +21,7 @@ use Rattle.text.specs.Numeral.{digit_at, in_decimal}
 use Rattle.text.proofs.Figures.{length-decimal}
 use Rattle.text.proofs.Line.{decimal-digit}
 use Rattle.text.proofs.Pieces.{put-long, put_whole}
-use Rattle.npy_header.specs.Header.{header_length, described, padding, header, max_size, number_from, size_in}
+use Rattle.npy_header.specs.Header.{header_length, described, padding, header, max_size, number_from, size_in, break_of}
 use Rattle.npy_header.specs.Rules.{header_written}
 use Rattle.answers.specs.declared.Refusal.{Refusal}
 
@@ -112,3 +112,31 @@ module _ {file : List ℕ} {n i : ℕ} (p : Sizing file n i) where
 
   pub sizing-done : 9 ≤ i → n ≡ size_in file
   sizing-done h = let e : 9 - i ≡ 0 = omega arith in rw e at p.is
+
+-- ---- the loop that holds a file to a header: what is left of both breaks where all of them does
+pub record Held (header file : List ℕ) (i : ℕ) : Type 0 where
+  pub within : i ≤ length header
+  pub is : i + break_of (drop i header) (drop i file) ≡ break_of header file
+
+pub held_none : (header file : List ℕ) → Held header file 0
+held_none header file = record { within = omega arith; is = omega arith }
+
+module _ {header file : List ℕ} {i : ℕ} (p : Held header file i) where
+  pub held-short : i < length header → length file ≤ i → i ≡ break_of header file
+  held-short h k = omega (arith, rw (drop-cons header i 0 h, drop_of_length-le file k) at p.is)
+
+  pub held-differs : i < length header → i < length file → (get_or header i 0 ≡ get_or file i 0 → ⊥) → i ≡ break_of header file
+  held-differs h k d =
+      omega (arith, rw (drop-cons header i 0 h, drop-cons file i 0 k, ne_eqb (get_or header i 0) (get_or file i 0) d) at p.is)
+
+  pub held_more : i < length header → i < length file → get_or header i 0 ≡ get_or file i 0 → Held header file (i + 1)
+  held_more h k d =
+      record {
+        within = omega arith;
+        is =
+            rw add-one
+            (omega (arith, rw (drop-cons header i 0 h, drop-cons file i 0 k, eq-eqb (get_or header i 0) (get_or file i 0) d) at p.is));
+      }
+
+  pub held-done : length header ≤ i → i ≡ break_of header file
+  held-done h = omega (arith, rw (drop_of_length-le header h) at p.is)

@@ -101,6 +101,8 @@ fn put_behind<W: Write>(
     Ok(())
 }
 
+// Not inlined: the list of tags would stand in the frame of every answer.
+#[inline(never)]
 pub(crate) fn put_set<W: Write>(
     stream: &mut W,
     request: Request,

@@ -2,7 +2,7 @@
 -- Assumes nothing.
 use mathlib.Core.Path.{◌≡◌, refl, sym, subst, ◌∙◌}
 use mathlib.Core.List.{List}
-use Prim.Native.Nat.{ℕ, min, ◌<◌}
+use Prim.Native.Nat.{ℕ, ◌<◌}
 use mir.Syntax.{Dict, w64}
 use mir.Val.{Fits}
 use denote.RattleType.{RattleType}
@@ -46,7 +46,7 @@ within-one T l κs a r r' s s' p q = p.1 ∙ sym q.1
 
 -- whatever is added to a page
 pub filled_one : {x : List ℕ} {p q q' : Page} → Adds x p q → Adds x p q' → filled q ≡ filled q'
-filled_one a b = λ i. ((a.put.behind ∙ sym b.put.behind) i, (a.put.stored ∙ sym b.put.stored) i)
+filled_one a b = λ i. ((a.behind ∙ sym b.behind) i, (a.put.stored ∙ sym b.put.stored) i)
 
 -- and nothing else is answered: `r` and `r'` are unit values
 pub adds_one : {x : List ℕ} {p q q' : Page} {r r' : Unit {0}} → Adds x p q → Adds x p q' → ◌≡◌ {A = Unit {0}} r r' × (filled q ≡ filled q')
@@ -54,9 +54,7 @@ adds_one a b = (refl, filled_one a b)
 
 pub page-new-one : OnePart page-new.Learnt (λ κs r. filled r)
 page-new-one κs a r r' s s' p q =
-    let e = p.from ∙ sym q.from in
-    let l = p.stored ∙ sym q.stored in
-    λ i. (min (e i) (length (l i)), l i)
+    λ i. ((p.from ∙ sym q.from) i, (p.stored ∙ sym q.stored) i)
 
 pub page-place-one : OneResult page-place.Learnt
 page-place-one κs a r r' s s' p q = p ∙ sym q

@@ -2,13 +2,14 @@
 use mathlib.Core.Path.{◌≡◌, ap, ap₂, ◌∙◌}
 use mathlib.Core.List.{◌++◌}
 use Prim.Native.Nat.{◌+◌, ◌-◌, ◌<◌}
+use native.Mathlib.Nat.{add-zero}
 use native.Mathlib.Numerals.{add-one}
 use native.Mathlib.Omega.{arith}
 use Rattle.layout.specs.Triangle.{slots_of}
 use Rattle.layout.proofs.Along.{slot_at, slot-below}
 use Rattle.explain.specs.Slots.{code_at, slot_code}
 use Rattle.parts.specs.Parts.{gap, slot_text}
-use Rattle.text.proofs.Adding.{adds_then}
+use Rattle.text.proofs.Adding.{adds_none, adds_then}
 use Rattle.accounts.proofs.Told.{is-slot, slot-behind, slots-fit}
 use Rattle.accounts.proofs.slots.put_row.Goals as goal
 use Rattle.accounts.proofs.slots.put_row.Goals.{In-loop-j}
@@ -19,6 +20,12 @@ below c = slot-below c.requires.1 c.requires.2 (omega arith) c.loop-j-test.true
 pub overflow_add-slot : goal.overflow_add-slot
 overflow_add-slot c =
     let t = (goal.at.overflow_add-slot c).In-loop-j in omega (arith, below t, slots-fit t.args.head.n (omega arith))
+
+pub loop-j-init : goal.loop-j-init
+loop-j-init c =
+    let a = c.args in
+    let none : a.i + 1 - 1 - a.i ≡ 0 = omega arith in
+    (rw none (adds_none a.page.now), rw (none, add-zero) c.requires.3)
 
 pub loop-j-preserved : goal.loop-j-preserved
 loop-j-preserved c =
