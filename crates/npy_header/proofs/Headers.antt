@@ -2,7 +2,8 @@
 -- Assumes nothing.
 use mathlib.Core.Path.{◌≡◌, refl, sym, ◌∙◌}
 use mathlib.Core.List.{List, [], ◌∷◌, append-nil}
-use Prim.Native.Nat.{ℕ, suc, ◌+◌, ◌-◌, ◌*◌, ◌^◌, ◌≤◌, ◌<◌}
+use mathlib.Core.Logic.{⊎_elim}
+use Prim.Native.Nat.{ℕ, suc, ◌+◌, ◌-◌, ◌*◌, ◌^◌, ◌≤◌, ◌<◌, min}
 use native.Mathlib.Nat.{zero-add, pow-suc, pow-le-pow_right}
 use native.Mathlib.Numerals.{add-one}
 use native.Mathlib.Omega.{arith}
@@ -20,6 +21,7 @@ use Rattle.text.specs.Text.{decimal}
 use Rattle.text.specs.Numeral.{digit_at, in_decimal}
 use Rattle.text.proofs.Figures.{length-decimal}
 use Rattle.text.proofs.Line.{decimal-digit}
+use Rattle.text.proofs.Order.{lt-or-le}
 use Rattle.text.proofs.Pieces.{put-long, put_whole}
 use Rattle.npy_header.specs.Header.{header_length, described, padding, header, max_size, number_from, size_in, break_of}
 use Rattle.npy_header.specs.Rules.{header_written}
@@ -140,3 +142,7 @@ module _ {header file : List ℕ} {i : ℕ} (p : Held header file i) where
 
   pub held-done : length header ≤ i → i ≡ break_of header file
   held-done h = omega (arith, rw (drop_of_length-le header h) at p.is)
+
+  -- where the shorter ends
+  pub held-end : i ≡ min (length header) (length file) → i ≡ break_of header file
+  held-end e = ⊎_elim (λ (h : i < length header). held-short h (omega arith)) (λ (h : length header ≤ i). held-done h) (lt-or-le i (length header))

@@ -33,16 +33,13 @@ pub fn size_in(file: &[u8]) -> u64
 fn first_break(header: &[u8], file: &[u8]) -> usize
     ensures { result ≡ break_of header.now file.now }
 {
-    // by an index, which the compiler makes into a comparison of sixteen bytes at a time
-    for i in 0..header.len() {
-        if file.len() <= i {
-            return i;
-        }
+    let there = header.len().min(file.len());
+    for i in 0..there {
         if header[i] != file[i] {
             return i;
         }
     }
-    header.len()
+    there
 }
 
 // The file is held to the header of its own N.
