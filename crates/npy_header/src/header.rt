@@ -16,6 +16,7 @@ pub const HEADER_LENGTH: usize = 128;
 const MAX_SIZE: u64 = 999_999_999;
 
 // All but the padding.
+#[inline(always)]
 fn put_described(n: u64, page: &mut Page<'_>)
     ensures { Adds (described n) page.old page.new }
 {
@@ -38,6 +39,7 @@ fn pad(at: usize, out: &mut [u8])
 }
 
 // Both, over the front of `out`.
+#[inline(always)]
 pub(crate) fn put_header(n: u64, out: &mut [u8])
     requires { (n ≤ max_size) × (header_length ≤ length out.old) }
     ensures { out.new ≡ sets out.old 0 (header n) }
@@ -49,6 +51,7 @@ pub(crate) fn put_header(n: u64, out: &mut [u8])
 }
 
 // The header of N, over the front of `out`.
+#[inline(never)]
 pub fn write_header(n: u64, out: &mut [u8]) -> Result<usize, Refusal>
     ensures { (written result ≡ header_written n (length out.old))
         × (out.new ≡ leaves (written result) (header n) out.old) }
