@@ -15,7 +15,7 @@ pub const HEADER_LENGTH: usize = 128;
 // The most that nine digits spell.
 const MAX_SIZE: u64 = 999_999_999;
 
-// All but the padding.
+// All but the padding. Inlined, as `put_header` is: then a file is compared with what they make sixteen bytes at a time.
 #[inline(always)]
 fn put_described(n: u64, page: &mut Page<'_>)
     ensures { Adds (described n) page.old page.new }
@@ -50,7 +50,7 @@ pub(crate) fn put_header(n: u64, out: &mut [u8])
     pad(at, out);
 }
 
-// The header of N, over the front of `out`.
+// The header of N, over the front of `out`. Not inlined: whoever exports has the registers for the entries.
 #[inline(never)]
 pub fn write_header(n: u64, out: &mut [u8]) -> Result<usize, Refusal>
     ensures { (written result ≡ header_written n (length out.old))

@@ -1,13 +1,14 @@
--- Marks in lent memory: what a search for another entry finds.
+-- Marks in lent memory: what a look at all entries finds.
 -- Assumes nothing.
-use mathlib.Core.Path.{◌≡◌, refl, sym, subst}
-use mathlib.Core.Bool.{Bool, true, false, not}
+use mathlib.Core.Path.{◌≡◌, refl, sym, subst, ◌∙◌}
+use mathlib.Core.Bool.{Bool, true, false, not, ◌||◌}
 use mathlib.Core.List.{List, [], ◌∷◌, ◌++◌}
 use Prim.Native.Nat.{ℕ, ◌≤◌}
 use lib.ListN.{length, take, drop}
 use lib.Seq.{length-take-le}
 use Rattle.std.proofs.Math.ListN.{replicate}
-use Rattle.std.specs.List.{list_any}
+use Rattle.std.specs.List.{fold}
+use Rattle.answers.specs.Table.{pick}
 use Rattle.text.specs.Marks.{IsClonedAs, marked, unmarked}
 
 module _ {T : Type 0} (infallible : T → Type 0) (clone : T → T → Type 0) {mark value : T} (e : value ≡ mark) (k : IsClonedAs infallible clone mark) where
@@ -23,12 +24,16 @@ module _ {T : Type 0} (infallible : T → Type 0) (clone : T → T → Type 0) {
       rw (f same, length-take-le n lent h, e)
 
 module _ {T : Type 0} (eq : T → T → Bool) (mark : T) where
-  found : (entry : T) (rest : List T) (b : Bool) → list_any (λ e. not (eq e mark)) rest ≡ unmarked eq mark rest
-      → eq entry mark ≡ b → list_any (λ e. not (eq e mark)) (entry ∷ rest) ≡ unmarked eq mark (entry ∷ rest)
-  found entry rest true h e = rw (e, h)
-  found entry rest false h e = rw e
+  -- a look at all of them
+  looked-on : (entries : List T) (b : Bool) → fold (λ b e. b || not (eq e mark)) b entries ≡ (b || unmarked eq mark entries)
+  looked-on [] true = refl
+  looked-on [] false = refl
+  looked-on (entry ∷ entries) b = looked-on entries (b || not (eq entry mark)) ∙ joined b (eq entry mark) (unmarked eq mark entries)
+    where
+      joined : (b same rest : Bool) → ((b || not same) || rest) ≡ (b || pick same rest true)
+      joined true same rest = refl
+      joined false true rest = refl
+      joined false false rest = refl
 
-  -- a search for another entry
-  pub searched : (entries : List T) → list_any (λ entry. not (eq entry mark)) entries ≡ unmarked eq mark entries
-  searched [] = refl
-  searched (entry ∷ entries) = found entry entries (eq entry mark) (searched entries) refl
+  pub looked : (entries : List T) → fold (λ b e. b || not (eq e mark)) false entries ≡ unmarked eq mark entries
+  looked entries = looked-on entries false

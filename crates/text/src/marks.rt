@@ -47,12 +47,13 @@ pub fn mark<T: Marked>(lent: &mut [T], count: u64)
     lent[..end].fill(T::MARK);
 }
 
-// Whether one of the first entries, so many, is without the mark, from a place on.
+// Whether one of the first entries, so many, is without the mark, from a place on. All are looked at, several at a time,
+// since mostly none is found.
 pub fn changed<T: Marked>(lent: &[T], from: usize, count: u64) -> bool
     ensures { result ≡ unmarked_in T.eq T.MARK from count lent.now }
 {
-    lent.iter()
-        .take(count as usize)
-        .skip(from)
-        .any(|&entry| entry != T::MARK)
+    let front = &lent[..within(count as usize, lent)];
+    front[within(from, front)..]
+        .iter()
+        .fold(false, |found, &entry| found | (entry != T::MARK))
 }
