@@ -7,7 +7,6 @@ use mir.Syntax.{Dict, w64}
 use mir.Val.{Fits}
 use denote.RattleType.{RattleType}
 use denote.Param.Laws.{Laws, IsCopy}
-use lib.ListN.{length}
 use Rattle.std.specs.declared.clone.Clone as Clone
 use Rattle.std.specs.declared.cmp.PartialEq as PartialEq
 use Rattle.std.proofs.lemmas.List.{same_lists}
